@@ -66,12 +66,12 @@ text-there c r = ltb (r + 1) (length (c .offsets)) && (leb (getD (c .offsets) r 
 abbrev pub text-at : Column → ℕ → Option (List ℕ)
 text-at c r =
     cond (present (c .validity) r && text-there c r)
-      (Some (part (getD (c .offsets) r 0) (getD (c .offsets) (r + 1) 0 - getD (c .offsets) r 0) (c .content))) None
+    (Some (part (getD (c .offsets) r 0) (getD (c .offsets) (r + 1) 0 - getD (c .offsets) r 0) (c .content))) None
 
 abbrev pub fields-at : Column → ℕ → Option (List (Option ℤ))
 fields-at c r =
     cond (present (c .validity) r && leb (25 * r + 25) (length (c .content)))
-      (Some (field-in (c .content) (25 * r) 0 ∷ field-in (c .content) (25 * r) 1 ∷ field-in (c .content) (25 * r) 2 ∷ [])) None
+    (Some (field-in (c .content) (25 * r) 0 ∷ field-in (c .content) (25 * r) 1 ∷ field-in (c .content) (25 * r) 2 ∷ [])) None
 
 abbrev pub shown : Kind → Column → ℕ → Cell
 shown numbers c r = number-cell (number-at c r)

@@ -56,7 +56,7 @@ shape-fits k rows validity offsets content = leb rows 1024 && (validity-fits val
 abbrev pub column-refused : ℕ → ℕ → List ℕ → List ℕ → List ℕ → Option ColumnFault
 column-refused code rows validity offsets content =
     first-of (refuse (not (known-kind code)) faults.Kind
-      ∷ refuse (not (shape-fits (kind-of code) rows validity offsets content)) faults.Shape ∷ [])
+    ∷ refuse (not (shape-fits (kind-of code) rows validity offsets content)) faults.Shape ∷ [])
 
 abbrev pub flags-refused : ℕ → List ℕ → List ℕ → Option ColumnFault
 flags-refused rows validity bits = first-of (refuse (not (leb rows 1024 && (validity-fits validity rows && bits-fit bits rows))) faults.Shape ∷ [])

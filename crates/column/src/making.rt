@@ -82,7 +82,9 @@ fn parts_fit(kind: Kind, rows: usize, offsets: &[u32], data: &[u8]) -> bool
     match kind {
         Kind::Number => offsets.len() == 0 && data.len() == 8 * rows,
         Kind::Bytes => {
-            offsets.len() == rows + 1 && never_fall(offsets, rows) && offsets[rows] as usize <= data.len()
+            offsets.len() == rows + 1
+                && never_fall(offsets, rows)
+                && offsets[rows] as usize <= data.len()
         }
         Kind::Record => offsets.len() == 0 && data.len() == 25 * rows && records_fit(data, rows),
     }
@@ -97,7 +99,13 @@ fn shape_fits(kind: Kind, rows: usize, validity: &[u8], offsets: &[u32], data: &
 
 impl<'a> Column<'a> {
     // The column over the caller's parts; `kind` is 1 for numbers, 2 for byte strings, 3 for records.
-    pub fn new(kind: u32, rows: usize, validity: &'a [u8], offsets: &'a [u32], data: &'a [u8]) -> Result<Column<'a>, ColumnFault>
+    pub fn new(
+        kind: u32,
+        rows: usize,
+        validity: &'a [u8],
+        offsets: &'a [u32],
+        data: &'a [u8],
+    ) -> Result<Column<'a>, ColumnFault>
         ensures { λ r. ⌜ r ≡ outcome (column-refused kind rows (now (validity .entry)) (now (offsets .entry)) (now («data» .entry))) (column-over kind rows (validity .entry) (offsets .entry) («data» .entry)) ⌝ }
     {
         let Some(kind) = kind_of(kind) else {
@@ -106,18 +114,32 @@ impl<'a> Column<'a> {
         if !shape_fits(kind, rows, validity, offsets, data) {
             return Err(ColumnFault::Shape);
         }
-        Ok(Column { kind, rows, validity, offsets, data })
+        Ok(Column {
+            kind,
+            rows,
+            validity,
+            offsets,
+            data,
+        })
     }
 }
 
 impl<'a> BoolColumn<'a> {
     // The boolean column over the caller's parts.
-    pub fn new(rows: usize, validity: &'a [u8], bits: &'a [u8]) -> Result<BoolColumn<'a>, ColumnFault>
+    pub fn new(
+        rows: usize,
+        validity: &'a [u8],
+        bits: &'a [u8],
+    ) -> Result<BoolColumn<'a>, ColumnFault>
         ensures { λ r. ⌜ r ≡ outcome (flags-refused rows (now (validity .entry)) (now (bits .entry))) (flags-over rows (validity .entry) (bits .entry)) ⌝ }
     {
         if rows > 1024 || !validity_fits(validity, rows) || bits.len() != (rows + 7) / 8 {
             return Err(ColumnFault::Shape);
         }
-        Ok(BoolColumn { rows, validity, bits })
+        Ok(BoolColumn {
+            rows,
+            validity,
+            bits,
+        })
     }
 }

@@ -51,7 +51,11 @@ impl<'a> Column<'a> {
         requires { ⌜ at + 25 ≤ length (now (now self .«data»)) ⌝ ∗ ⌜ j < 3 ⌝ }
         ensures { λ x. ⌜ x ≡ field-in (now (now (self .entry) .«data»)) at j ⌝ }
     {
-        if bit(&self.data[at..at + 1], j) { Some(number(self.data, at + 1 + 8 * j)) } else { None }
+        if bit(&self.data[at..at + 1], j) {
+            Some(number(self.data, at + 1 + 8 * j))
+        } else {
+            None
+        }
     }
 
     // The three fields of the record in row `r`, read as in a column of records; none where it is null.
@@ -83,7 +87,11 @@ impl<'a> BoolColumn<'a> {
     pub fn value(&self, r: usize) -> Option<bool>
         ensures { λ x. ⌜ x ≡ flag-at (flags-seen (now (self .entry))) r ⌝ }
     {
-        if valid(self.validity, r) { Some(bit(self.bits, r)) } else { None }
+        if valid(self.validity, r) {
+            Some(bit(self.bits, r))
+        } else {
+            None
+        }
     }
 
     // Whether row `r` is true and not null.
