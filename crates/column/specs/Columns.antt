@@ -6,12 +6,13 @@
 --   part        some elements of a list from a place on
 --   number-at   the number in row r; none where the row is null or its eight bytes are not all there
 --   text-at     the byte string between offsets r and r + 1; none where the row is null or the string is no part of the bytes
+--   octets      numbers as bytes, each modulo 256: bytes stay as they are
 --   fields-at   the three fields in row r; none where the row is null or its 25 bytes are not all there
 --   cell-at     the cell in row r
 --   flag-at     the truth value in row r, or none
 --   true-at     row r is true and not null
 --   count-up    the numbers from one on, so many of them
-use mathlib.Core.List.{List, [], _∷_}
+use mathlib.Core.List.{List, [], _∷_, map}
 use mathlib.Core.Bool.{Bool, true, false, cond, _&&_, _||_}
 use Prim.Native.Nat.{ℕ, zero, suc, _+_, _-_, _*_, _/_, _%_, _^_}
 use lib.Dec.{eqb, leb, ltb}
@@ -19,6 +20,7 @@ use lib.IntN.{ℤ}
 use lib.ListN.{length, getD, take, drop}
 use mir.Val.{toZ}
 use mir.Syntax.{w64}
+use Rattle.std.specs.Options.{mapped}
 use Rattle.std.specs.declared.option.Option.{Option}
 use Rattle.std.specs.declared.option.Option.the-variants.{Some, None}
 use Rattle.column.specs.Cells.{Kind, numbers, strings, records, Cell, number-cell, text-cell, fields-cell}
@@ -49,9 +51,9 @@ abbrev pub little : List ℕ → ℕ
 little [] = 0
 little (b ∷ bs) = b + 256 * little bs
 
--- the signed number in the eight bytes from `start` on
+-- the signed number of 64 bits in the eight bytes from `start` on
 unfoldable pub number-in : List ℕ → ℕ → ℤ
-number-in bytes start = toZ w64 (little (part start 8 bytes))
+number-in bytes start = toZ w64 (little (part start 8 bytes) % 2 ^ 64)
 
 -- field j of the record whose 25 bytes begin at `start`: bit j of the first byte says whether it is there
 abbrev pub field-in : List ℕ → ℕ → ℕ → Option ℤ
@@ -73,9 +75,12 @@ fields-at c r =
     cond (present (c .validity) r && leb (25 * r + 25) (length (c .content)))
     (Some (field-in (c .content) (25 * r) 0 ∷ field-in (c .content) (25 * r) 1 ∷ field-in (c .content) (25 * r) 2 ∷ [])) None
 
+abbrev pub octets : List ℕ → List ℕ
+octets bs = map (λ b. b % 256) bs
+
 abbrev pub shown : Kind → Column → ℕ → Cell
 shown numbers c r = number-cell (number-at c r)
-shown strings c r = text-cell (text-at c r)
+shown strings c r = text-cell (mapped octets (text-at c r))
 shown records c r = fields-cell (fields-at c r)
 
 unfoldable pub cell-at : Column → ℕ → Cell

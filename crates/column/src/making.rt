@@ -1,11 +1,11 @@
 // Making a column: KIND, then SHAPE.
 ghost use mathlib.Core.Path.{_≡_};
 ghost use mathlib.Core.Bool.{cond};
-ghost use Prim.Native.Nat.{ℕ, _+_, _*_, _<_, _≤_};
+ghost use Prim.Native.Nat.{_+_, _*_, _<_, _≤_};
 ghost use lib.ListN.{length};
 ghost use Rattle.std.specs.declared.option.Option.the-variants.{Some, None};
 ghost use Rattle.column.specs.Checks.{outcome};
-ghost use Rattle.column.specs.Shapes.{known-kind, rises, field-fits, record-fits, records-fit, parts-fit, bits-fit, validity-fits, shape-fits, column-refused, flags-refused};
+ghost use Rattle.column.specs.Shapes.{known-kind, rises, field-fits, record-fits, records-fit, parts-fit, validity-fits, shape-fits, column-refused, flags-refused};
 ghost use Rattle.column.specs.Seen.{kind-seen, kind-coded, column-over, flags-over};
 use crate::BoolColumn;
 use crate::Column;

@@ -2,7 +2,6 @@
 --   parts-seen     the caller's buffers
 --   space-of       the space that parts need: a length for each
 --   roomy          buffers that have so much space
---   there-bits     which of some optional values are there
 --   numbers-laid   the parts of a column of numbers, given by optional numbers
 use mathlib.Core.List.{List, map}
 use mathlib.Core.Bool.{Bool, _&&_}
