@@ -1,0 +1,9 @@
+pub mod Checking
+pub mod Passing
+pub mod Walking
+pub mod Replacing
+pub mod Updating
+pub mod Holding
+pub mod Batching
+pub mod Dropping
+pub mod Evaluating

@@ -1,0 +1,4 @@
+pub mod Notices
+pub mod Seen
+pub mod Accumulators
+pub mod Walk

@@ -1,0 +1,4 @@
+pub mod Declining
+pub mod Fronts
+pub mod Ordering
+pub mod Walking

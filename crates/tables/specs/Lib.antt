@@ -1,0 +1,4 @@
+pub mod Meaning
+pub mod Numbered
+pub mod Refusals
+pub mod Delivered
