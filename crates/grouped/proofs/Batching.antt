@@ -25,10 +25,11 @@ use Rattle.book.specs.Declines.{batch-declined}
 use Rattle.book.specs.Emission.{Outputs, value-shown}
 use Rattle.book.specs.Calls.{update, Result, done, refused}
 use Rattle.book.proofs.Following.{Held, reply, held-after, met}
-use Rattle.grouped.specs.declared.Fault as coded
+use Rattle.faults.specs.declared.Fault as coded
 use Rattle.grouped.specs.declared.FirstLastGroupsAccumulator.{FirstLastGroupsAccumulator}
 use Rattle.grouped.specs.Accumulators.{shown, made-of, flags-of, is-set, key-cells, Shows}
-use Rattle.grouped.specs.Seen.{declined-seen, batch-seen}
+use Rattle.faults.specs.Reported.{declined-seen}
+use Rattle.grouped.specs.Seen.{batch-seen}
 use Rattle.grouped.specs.Walk.{Table, table, take-below, Same-made, Best, Grown, Grows-not}
 use Rattle.grouped.proofs.Holding.{flags-length}
 use Rattle.grouped.proofs.Passing.{Passed, passed}

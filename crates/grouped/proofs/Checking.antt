@@ -14,7 +14,7 @@ use Rattle.std.specs.declared.result.Result.the-variants.{Ok, Err}
 use Rattle.column.specs.declared.Column as code
 use Rattle.tables.specs.declared.StateFault.the-variants as state
 use Rattle.tables.specs.declared.OrderFault.the-variants as order
-use Rattle.grouped.specs.declared.Fault as coded
+use Rattle.faults.specs.declared.Fault as coded
 use Rattle.std.specs.Results.{ErrBy}
 use Rattle.std.proofs.shelf.Results.{err-from-errBy}
 use native.Mathlib.Numerals.{add-one}
@@ -31,7 +31,8 @@ use Rattle.tables.specs.Refusals.{unread, cell-refused, named-unread, named-ref
 use Rattle.book.specs.Batches.{Given, order-columns}
 use Rattle.book.specs.Declines.{at-row, at-column, own, cols, kind, rows, kind-check, rows-check}
 use Rattle.book.specs.Winners.{Making}
-use Rattle.grouped.specs.Seen.{state-placed, order-placed, declined-seen, fault-seen, given-seen}
+use Rattle.faults.specs.Reported.{state-placed, order-placed, declined-seen, fault-seen}
+use Rattle.grouped.specs.Seen.{given-seen}
 
 -- Reading a lower layer's refusal
 

@@ -27,9 +27,10 @@ use Rattle.book.specs.Declines.{own}
 use Rattle.book.specs.Emission.{Outputs, To, emits, evaluate-declined, value-parts, value-shown}
 use Rattle.book.specs.Winners.{Making, Row}
 use Rattle.grouped.specs.Accumulators.{Shown, Shows, flags-of, is-set, key-cells, making}
-use Rattle.grouped.specs.Seen.{emission-seen, fault-seen, order-placed, state-placed, values-only}
-use Rattle.grouped.specs.declared.Fault as coded
-use Rattle.grouped.specs.declared.Refusal.the-variants.{State}
+use Rattle.faults.specs.Reported.{fault-seen, order-placed, state-placed}
+use Rattle.grouped.specs.Seen.{emission-seen, values-only}
+use Rattle.faults.specs.declared.Fault as coded
+use Rattle.faults.specs.declared.Refusal.the-variants.{State}
 use Rattle.tables.specs.declared.StateFault.the-variants as state-fault
 use Rattle.tables.specs.declared.StateFault.{StateFault}
 use Rattle.tables.specs.declared.OrderFault.{OrderFault}

@@ -26,7 +26,7 @@ use Rattle.tables.specs.Refusals.{cols-fit, some-column, other-kind, past-colum
 use Rattle.book.specs.Winners.{Row, Making, Lawful, beats, winner, top-rows}
 use Rattle.book.specs.Batches.{Given, row-at, admitted, order-columns}
 use Rattle.book.proofs.Winning.{challenge, run, winner-append}
-use Rattle.grouped.specs.Seen.{order-placed}
+use Rattle.faults.specs.Reported.{order-placed}
 use Rattle.grouped.specs.Walk.{picks, ahead, ahead-row, group-rows, found, step, let-in, Best}
 
 pub getD-same : {X : Type 0} (n k : ℕ) (x : X) → getD (replicate n x) k x ≡ x

@@ -1,68 +1,22 @@
--- Seen: the code's calls, results and faults in the words of the book.
---   fault-seen      a fault by its number, its layer, its column and its row
---   declined-seen   what a check declines, if it does
+-- Seen: the code's calls and results in the words of the book.
 --   given-seen, batch-of   the columns and the batch of a call
 --   batch-seen, emission-seen   the result of a batch and of an emission
 --   values-only     the buffers of a call that writes values alone; no-outputs those of one that writes nothing
---   state-placed, order-placed   a lower layer's refusal inside the accumulator's, with column and row
 use mathlib.Core.List.{List, [], map}
 use Prim.Native.Nat.{ℕ}
-use Rattle.std.specs.declared.option.Option.{Option}
-use Rattle.std.specs.declared.option.Option.the-variants.{Some, None}
 use Rattle.std.specs.declared.result.Result.{Result}
 use Rattle.std.specs.declared.result.Result.the-variants.{Ok, Err}
-use Rattle.column.specs.Faults as Faults
-use Rattle.column.specs.Faults.{ROWS, COLS, TOTAL, GROUP, SHRUNK, FEWER, in-state, in-order, in-accumulator}
 use Rattle.column.specs.Seen.{column-seen}
 use Rattle.column.specs.declared.Column.{Column}
 use Rattle.layout.specs.Layout as Layout
-use Rattle.tables.specs.Numbered.{state-number, order-number}
-use Rattle.tables.specs.declared.StateFault.{StateFault}
-use Rattle.tables.specs.declared.OrderFault.{OrderFault}
+use Rattle.faults.specs.Reported.{fault-seen}
+use Rattle.faults.specs.declared.Fault.{Fault}
 use Rattle.book.specs.Batches as Batches
 use Rattle.book.specs.Emission as Emission
 use Rattle.book.specs.Calls as Calls
-use Rattle.grouped.specs.declared.OwnFault.{OwnFault}
-use Rattle.grouped.specs.declared.OwnFault.the-variants as own
-use Rattle.grouped.specs.declared.Refusal.{Refusal}
-use Rattle.grouped.specs.declared.Refusal.the-variants.{State, Order, Own}
-use Rattle.grouped.specs.declared.Fault.{Fault}
 use Rattle.grouped.specs.declared.EmitTo.{EmitTo}
 use Rattle.grouped.specs.declared.EmitTo.the-variants.{All, First}
 use Rattle.grouped.specs.declared.notice.ShiftNotice.{ShiftNotice}
-
-abbrev pub own-number : OwnFault → ℕ
-own-number own.Cols = COLS
-own-number own.Rows = ROWS
-own-number own.Total = TOTAL
-own-number own.Shrunk = SHRUNK
-own-number own.Group = GROUP
-own-number own.Fewer = FEWER
-
-abbrev pub number-of : Refusal → ℕ
-number-of (State f) = state-number f
-number-of (Order f) = order-number f
-number-of (Own f) = own-number f
-
-abbrev pub layer-of : Refusal → ℕ
-layer-of (State f) = in-state
-layer-of (Order f) = in-order
-layer-of (Own f) = in-accumulator
-
-abbrev pub fault-seen : Fault → Faults.Fault
-fault-seen f = Faults.fault (number-of (f .refusal)) (layer-of (f .refusal)) (f .column) (f .row)
-
-abbrev pub declined-seen : {X : Type 0} → Result X Fault → Option Faults.Fault
-declined-seen (Ok x) = None
-declined-seen (Err f) = Some (fault-seen f)
-
-abbrev pub state-placed : {X : Type 0} → Result X StateFault → ℕ → ℕ → Result X Fault
-state-placed (Ok x) c r = Ok x
-state-placed (Err f) c r = Err (record { refusal = State f; column = c; row = r })
-
-abbrev pub order-placed : {X : Type 0} → Result X OrderFault → ℕ → ℕ → Result X Fault
-order-placed (Ok x) c r = Ok x
-order-placed (Err f) c r = Err (record { refusal = Order f; column = c; row = r })
 
 abbrev pub given-seen : Column → List Column → ℕ → Batches.Given
 given-seen v os n = record { value = column-seen v; orders = map column-seen os; count = n }

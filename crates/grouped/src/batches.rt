@@ -4,10 +4,10 @@ ghost use Rattle.column.specs.Seen.{marks-seen};
 ghost use Rattle.book.specs.Calls.{update};
 ghost use Rattle.grouped.specs.Accumulators.{shown, Obeys};
 ghost use Rattle.grouped.specs.Seen.{batch-of, batch-seen, no-outputs};
-use crate::Fault;
-use crate::FirstLastGroupsAccumulator;
 use column::BoolColumn;
 use column::Column;
+use crate::FirstLastGroupsAccumulator;
+use faults::Fault;
 use tables::RowOrder;
 use tables::ValueState;
 

@@ -3,7 +3,6 @@ mod batches;
 mod checks;
 mod emission;
 mod extremes;
-mod faults;
 mod making;
 mod notice;
 mod slots;
@@ -11,20 +10,9 @@ mod slotting;
 mod taking;
 mod walk;
 
-pub use faults::At;
-pub use faults::FaultFromOrder;
-pub use faults::FaultFromState;
 pub use notice::ShiftNotice;
 
 use slots::SlotTable;
-use tables::OrderFault;
-use tables::OrderFaultDebug;
-use tables::OrderFaultEq;
-use tables::OrderFaultPartialEq;
-use tables::StateFault;
-use tables::StateFaultDebug;
-use tables::StateFaultEq;
-use tables::StateFaultPartialEq;
 
 // The first or last value of each group by ordering keys.
 #[derive(Drop)]
@@ -41,31 +29,4 @@ pub struct FirstLastGroupsAccumulator<S, O> {
 pub enum EmitTo {
     All,
     First(usize),
-}
-
-// Why an accumulator declines a call on its own account.
-#[derive(Clone, Copy, PartialEq, Eq, Debug)]
-pub enum OwnFault {
-    Cols,
-    Rows,
-    Total,
-    Shrunk,
-    Group,
-    Fewer,
-}
-
-// A refusal of the accumulator's own, or a lower layer's, whole.
-#[derive(Clone, Copy, PartialEq, Eq, Debug)]
-pub enum Refusal {
-    State(StateFault),
-    Order(OrderFault),
-    Own(OwnFault),
-}
-
-// A refusal with the column and the row where it was met: 0 values, 1 to 3 order columns, 4 filter, 9 none.
-#[derive(Clone, Copy, PartialEq, Eq, Debug)]
-pub struct Fault {
-    pub refusal: Refusal,
-    pub column: u8,
-    pub row: usize,
 }

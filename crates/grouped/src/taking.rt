@@ -11,12 +11,12 @@ ghost use Rattle.column.specs.Seen.{column-seen, columns-seen};
 ghost use Rattle.tables.specs.Refusals.{key-refused, cell-refused, key-at};
 ghost use Rattle.grouped.specs.Accumulators.{flags-of};
 ghost use Rattle.grouped.specs.Walk.{row-of, wins, table, take-row, take-maybe, take-below, Same-made, Grown, Grows-not};
-use crate::Fault;
+use column::Column;
 use crate::FirstLastGroupsAccumulator;
 use crate::extremes::Extremes;
-use crate::faults::order_at;
-use crate::faults::state_at;
-use column::Column;
+use faults::Fault;
+use faults::order_at;
+use faults::state_at;
 use tables::RowOrder;
 use tables::ValueState;
 

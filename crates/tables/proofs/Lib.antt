@@ -1,4 +1,5 @@
 pub mod Declining
 pub mod Fronts
 pub mod Ordering
+pub mod Passing
 pub mod Walking

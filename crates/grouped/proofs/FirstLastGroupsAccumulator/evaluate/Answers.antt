@@ -10,7 +10,8 @@ use Rattle.book.specs.Calls.{dropped, refused}
 use Rattle.grouped.proofs.Evaluating.{cells-long, dropped-not, dropped-on, emission-refused, eval-done, eval-fewer, eval-short, keys-many, none-unspent, remade, taking, took-not, took-on, values-many}
 use Rattle.grouped.proofs.Holding.{obeys-from-held}
 use Rattle.grouped.proofs.Replacing.{done-so}
-use Rattle.grouped.specs.Seen.{fault-seen, to-seen}
+use Rattle.faults.specs.Reported.{fault-seen}
+use Rattle.grouped.specs.Seen.{to-seen}
 use Rattle.grouped.proofs.FirstLastGroupsAccumulator.evaluate.Needs as need
 
 pub returns-then-n-self : need.returns-then-n-self

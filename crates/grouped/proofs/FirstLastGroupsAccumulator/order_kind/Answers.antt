@@ -2,7 +2,7 @@ use mathlib.Core.Path.{_∙_, ap, ap₂}
 use Rattle.column.specs.Seen.{column-seen}
 use Rattle.book.specs.Declines.{order-column}
 use Rattle.grouped.proofs.Checking.{order-kind-is}
-use Rattle.grouped.specs.Seen.{declined-seen, order-placed}
+use Rattle.faults.specs.Reported.{declined-seen, order-placed}
 use Rattle.grouped.proofs.FirstLastGroupsAccumulator.order_kind.Needs as need
 
 pub returns : need.returns

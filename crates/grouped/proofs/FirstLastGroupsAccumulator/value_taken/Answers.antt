@@ -1,7 +1,7 @@
 use mathlib.Core.Path.{_∙_, ap}
 use Rattle.column.specs.Seen.{column-seen}
 use Rattle.grouped.proofs.Checking.{value-long-is}
-use Rattle.grouped.specs.Seen.{declined-seen, state-placed}
+use Rattle.faults.specs.Reported.{declined-seen, state-placed}
 use Rattle.grouped.proofs.FirstLastGroupsAccumulator.value_taken.Needs as need
 
 pub returns : need.returns

@@ -1,72 +1,13 @@
-// Faults: a lower layer's refusal with its column and row.
+// The number and the layer of a refusal.
 ghost use mathlib.Core.Path.{_≡_};
-ghost use Rattle.std.specs.declared.result.Result.the-variants.{Ok, Err};
 ghost use Rattle.tables.specs.Numbered.{table-number, state-number, order-number};
-ghost use Rattle.grouped.specs.Seen.{state-placed, order-placed, own-number, fault-seen};
-ghost use Rattle.grouped.specs.declared.Refusal.the-variants.{State, Order, Own};
+ghost use Rattle.faults.specs.Reported.{own-number, fault-seen};
 use crate::Fault;
 use crate::OwnFault;
 use crate::Refusal;
 use tables::OrderFault;
 use tables::StateFault;
 use tables::TableFault;
-
-// A lower layer's refusal, with the column and the row where it was met.
-#[derive(Clone, Copy)]
-pub struct At<F> {
-    pub fault: F,
-    pub column: u8,
-    pub row: usize,
-}
-
-pub impl From<At<StateFault>> for Fault as FaultFromState {
-    ghost converts = { λ e r. r ≡ record { refusal = State (e .fault); column = e .column; row = e .row } };
-
-    fn from(e: At<StateFault>) -> Fault {
-        Fault { refusal: Refusal::State(e.fault), column: e.column, row: e.row }
-    }
-}
-
-pub impl From<At<OrderFault>> for Fault as FaultFromOrder {
-    ghost converts = { λ e r. r ≡ record { refusal = Order (e .fault); column = e .column; row = e .row } };
-
-    fn from(e: At<OrderFault>) -> Fault {
-        Fault { refusal: Refusal::Order(e.fault), column: e.column, row: e.row }
-    }
-}
-
-// Adds the column and the row to a lower layer's refusal.
-fn located<T, F: Copy>(r: Result<T, F>, column: u8, row: usize) -> Result<T, At<F>>
-    ensures { λ s. ⌜ s ≡ elim r [ Ok x ↦ Ok x | Err f ↦ Err (record { fault = f; column = column; row = row }) ] ⌝ }
-{
-    match r {
-        Ok(x) => Ok(x),
-        Err(fault) => Err(At { fault, column, row }),
-    }
-}
-
-// A value state's refusal, whole inside the accumulator's.
-pub(crate) fn state_at<T>(r: Result<T, StateFault>, column: u8, row: usize) -> Result<T, Fault>
-    ensures { λ s. ⌜ s ≡ state-placed r column row ⌝ }
-{
-    let x = located(r, column, row)?;
-    Ok(x)
-}
-
-// A row order's refusal, whole inside the accumulator's.
-pub(crate) fn order_at<T>(r: Result<T, OrderFault>, column: u8, row: usize) -> Result<T, Fault>
-    ensures { λ s. ⌜ s ≡ order-placed r column row ⌝ }
-{
-    let x = located(r, column, row)?;
-    Ok(x)
-}
-
-// A refusal of the accumulator's own.
-pub(crate) fn own(fault: OwnFault, column: u8, row: usize) -> Fault
-    ensures { λ r. ⌜ r ≡ record { refusal = Own fault; column = column; row = row } ⌝ }
-{
-    Fault { refusal: Refusal::Own(fault), column, row }
-}
 
 // The number of a group table's refusal.
 fn table_number(fault: TableFault) -> u8

@@ -1,0 +1,5 @@
+pub mod Deciding
+pub mod Laid
+pub mod Reading
+pub mod Shown
+pub mod Verdicts
