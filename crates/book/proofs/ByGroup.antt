@@ -36,7 +36,7 @@ module _ (m : Making) (laws : Lawful m) where
   stored-challenge w v y = go (beats m y v) (beats m v w) refl refl
     where
       go : (p q : Bool) → beats m y v ≡ p → beats m v w ≡ q
-        → stored m (Some w) (cond p (Some y) (Some v)) ≡ challenge m (cond q (Some v) (Some w)) y
+          → stored m (Some w) (cond p (Some y) (Some v)) ≡ challenge m (cond q (Some v) (Some w)) y
       go true true e f = let g = beats-up y v w e f in rw (g, e)
       go true false e f = refl
       go false true e f = rw (f, e)
@@ -47,7 +47,7 @@ module _ (m : Making) (laws : Lawful m) where
   stored-run w v (y ∷ ys) = go (beats m y v) (λ u. stored-run w u ys) ∙ ap (λ o. run m o ys) (stored-challenge w v y)
     where
       go : (b : Bool) → ((u : Row) → stored m (Some w) (run m (Some u) ys) ≡ run m (stored m (Some w) (Some u)) ys)
-        → stored m (Some w) (run m (cond b (Some y) (Some v)) ys) ≡ run m (stored m (Some w) (cond b (Some y) (Some v))) ys
+          → stored m (Some w) (run m (cond b (Some y) (Some v)) ys) ≡ run m (stored m (Some w) (cond b (Some y) (Some v))) ys
       go true ih = ih y
       go false ih = ih v
 
@@ -75,14 +75,15 @@ met-run m (e ∷ es) ws i h = go (eqb (e .0) i) refl (met-run m es (set ws (e .0
   where
     new : Held
     new = set ws (e .0) (challenge m (getD ws (e .0) None) (e .1))
+
     go : (b : Bool) → eqb (e .0) i ≡ b
-      → (i < length new → getD (met m new es) i None ≡ run m (getD new i None) (rows-for i es))
-      → getD (met m new es) i None ≡ run m (getD ws i None) (map (λ (e : ℕ × Row). e .1) (cond b (e ∷ kept-by (λ (e : ℕ × Row). eqb (e .0) i) es) (kept-by (λ (e : ℕ × Row). eqb (e .0) i) es)))
+        → (i < length new → getD (met m new es) i None ≡ run m (getD new i None) (rows-for i es))
+        → getD (met m new es) i None ≡ run m (getD ws i None) (map (λ (e : ℕ × Row). e .1) (cond b (e ∷ kept-by (λ (e : ℕ × Row). eqb (e .0) i) es) (kept-by (λ (e : ℕ × Row). eqb (e .0) i) es)))
     go true f ih =
         let j : e .0 ≡ i = eqb-true (e .0) i f in
         let n : length new ≡ length ws = length-set ws (e .0) _ in
         let s : getD new i None ≡ challenge m (getD ws i None) (e .1) =
-              ap (λ k. getD (set ws k (challenge m (getD ws k None) (e .1))) i None) j ∙ getD-set-same ws i (challenge m (getD ws i None) (e .1)) None h in
+        ap (λ k. getD (set ws k (challenge m (getD ws k None) (e .1))) i None) j ∙ getD-set-same ws i (challenge m (getD ws i None) (e .1)) None h in
         ih (omega arith) ∙ ap (λ o. run m o (rows-for i es)) s
     go false f ih =
         let n : length new ≡ length ws = length-set ws (e .0) _ in
@@ -91,5 +92,5 @@ met-run m (e ∷ es) ws i h = go (eqb (e .0) i) refl (met-run m es (set ws (e .0
 
 -- what a group holds after a batch
 pub met-stored : (m : Making) (laws : Lawful m) (es : List (ℕ × Row)) (ws : Held) (i : ℕ) → i < length ws
-  → getD (met m ws es) i None ≡ stored m (getD ws i None) (winner m (rows-for i es))
+    → getD (met m ws es) i None ≡ stored m (getD ws i None) (winner m (rows-for i es))
 met-stored m laws es ws i h = met-run m es ws i h ∙ sym (stored-winner m laws (getD ws i None) (rows-for i es))

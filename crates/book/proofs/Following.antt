@@ -54,13 +54,13 @@ module _ (m : Making) (laws : Lawful m) where
   unfolding winners winner top-rows
   winners-grown b t =
       map-append (winner m) b (replicate (t - length b) []) ∙ ap (λ l. map (winner m) b ++ l) (map-replicate (winner m) (t - length b) [])
-        ∙ ap (λ n. map (winner m) b ++ replicate (t - n) None) (sym (length-map b (winner m)))
+      ∙ ap (λ n. map (winner m) b ++ replicate (t - n) None) (sym (length-map b (winner m)))
 
   winners-enter : (b : Book) (i : ℕ) (r : Row) → winners m (set b i (getD b i [] ++ r ∷ [])) ≡ set (winners m b) i (challenge m (getD (winners m b) i None) r)
   unfolding winners winner top-rows
   winners-enter b i r =
       map-set (winner m) b i (getD b i [] ++ r ∷ [])
-        ∙ ap (set (map (winner m) b) i) (winner-append m laws (getD b i []) (r ∷ []) ∙ ap (λ o. challenge m o r) (sym (List·getD-map (winner m) b i [])))
+      ∙ ap (set (map (winner m) b) i) (winner-append m laws (getD b i []) (r ∷ []) ∙ ap (λ o. challenge m o r) (sym (List·getD-map (winner m) b i [])))
 
   winners-entered : (b : Book) (es : List (ℕ × Row)) → winners m (entered b es) ≡ met m (winners m b) es
   winners-entered b [] = refl
@@ -94,8 +94,8 @@ module _ (m : Making) (laws : Lawful m) where
   answers-same [] b c e = refl
   answers-same (x ∷ xs) b c e =
       ap₂ (λ a l. a ∷ l) (ap (λ ws. answer-unless (declined m ws (x .0) (x .1)) (x .1) (answered m ws (x .0) (x .1))) e)
-        (answers-same xs (after m b (x .0) (x .1)) (after m c (x .0) (x .1))
-          (winners-after b (x .0) (x .1) ∙ ap (λ ws. held-after m ws (x .0) (x .1)) e ∙ sym (winners-after c (x .0) (x .1))))
+      (answers-same xs (after m b (x .0) (x .1)) (after m c (x .0) (x .1))
+      (winners-after b (x .0) (x .1) ∙ ap (λ ws. held-after m ws (x .0) (x .1)) e ∙ sym (winners-after c (x .0) (x .1))))
 
   pub answer-is : (b : Book) (c : Call) (o : Outputs) → answer m b c o ≡ reply m (winners m b) c o
   unfolding answer

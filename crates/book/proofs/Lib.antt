@@ -1,3 +1,4 @@
 pub mod Winning
 pub mod Following
 pub mod ByGroup
+pub mod Worked

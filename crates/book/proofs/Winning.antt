@@ -43,7 +43,7 @@ first-both p q [] w h k = h
 first-both p q (x ∷ xs) w h k = go (p x) refl h (λ h′. first-both p q xs w h′ k)
   where
     go : (b : Bool) → p x ≡ b → earliest (cond b (x ∷ kept-by p xs) (kept-by p xs)) ≡ Some w
-      → (earliest (kept-by p xs) ≡ Some w → earliest (kept-by (λ r. p r && q r) xs) ≡ Some w) → earliest (kept-by (λ r. p r && q r) (x ∷ xs)) ≡ Some w
+        → (earliest (kept-by p xs) ≡ Some w → earliest (kept-by (λ r. p r && q r) xs) ≡ Some w) → earliest (kept-by (λ r. p r && q r) (x ∷ xs)) ≡ Some w
     go true e h ih = let f : q x ≡ true = cc in rw (e, f) h
     go false e h ih = rw e (ih h)
 
@@ -93,9 +93,9 @@ module _ (m : Making) (laws : Lawful m) where
       let p : Row → Bool = unbeaten m (xs ++ y ∷ []) in
       let below = not-beaten-by xs w h in
       let old : All (λ r. p r ≡ false) xs =
-            all-weaker (λ r. beats m r w ≡ false) (λ r. p r ≡ false) (λ r e. let f = unbeaten-push xs y r in let g = beats-over y w r k e in grind arith) xs below in
+      all-weaker (λ r. beats m r w ≡ false) (λ r. p r ≡ false) (λ r e. let f = unbeaten-push xs y r in let g = beats-over y w r k e in grind arith) xs below in
       let none : some-of (λ s. beats m s y) xs ≡ false =
-            all-none (λ s. beats m s y) xs (all-weaker (λ r. beats m r w ≡ false) (λ r. beats m r y ≡ false) (λ r e. beats-back y w r k e) xs below) in
+      all-none (λ s. beats m s y) xs (all-weaker (λ r. beats m r w ≡ false) (λ r. beats m r y ≡ false) (λ r e. beats-back y w r k e) xs below) in
       let new : p y ≡ true = let f = unbeaten-push xs y y in let g = beats-not-self y in grind arith in
       ap earliest (kept-by-append p xs (y ∷ []) ∙ ap (λ l. l ++ kept-by p (y ∷ [])) (none-kept p xs old) ∙ cond-true (p y) _ _ new)
 
@@ -105,7 +105,7 @@ module _ (m : Making) (laws : Lawful m) where
       let p : Row → Bool = unbeaten m (xs ++ y ∷ []) in
       let both : p ≡ (λ r. unbeaten m xs r && not (beats m y r)) = fun-ext (unbeaten-push xs y) in
       let found : earliest (kept-by p xs) ≡ Some w =
-            ap (λ f. earliest (kept-by f xs)) both ∙ first-both (unbeaten m xs) (λ r. not (beats m y r)) xs w h (ap not k) in
+      ap (λ f. earliest (kept-by f xs)) both ∙ first-both (unbeaten m xs) (λ r. not (beats m y r)) xs w h (ap not k) in
       ap earliest (kept-by-append p xs (y ∷ [])) ∙ first-append (kept-by p xs) (kept-by p (y ∷ [])) w found
 
   winner-one : (y : Row) → winner m (y ∷ []) ≡ Some y
@@ -125,8 +125,8 @@ module _ (m : Making) (laws : Lawful m) where
       ap (winner m) (sym (append-assoc xs (y ∷ []) ys)) ∙ go (beats m y w) (winner-push-some xs w y h) (λ v. run-some (xs ++ y ∷ []) v ys)
     where
       go : (b : Bool) → winner m (xs ++ y ∷ []) ≡ cond b (Some y) (Some w)
-        → ((v : Row) → winner m (xs ++ y ∷ []) ≡ Some v → winner m ((xs ++ y ∷ []) ++ ys) ≡ run m (Some v) ys)
-        → winner m ((xs ++ y ∷ []) ++ ys) ≡ run m (cond b (Some y) (Some w)) ys
+          → ((v : Row) → winner m (xs ++ y ∷ []) ≡ Some v → winner m ((xs ++ y ∷ []) ++ ys) ≡ run m (Some v) ys)
+          → winner m ((xs ++ y ∷ []) ++ ys) ≡ run m (cond b (Some y) (Some w)) ys
       go true e ih = ih y e
       go false e ih = ih w e
 

@@ -44,7 +44,7 @@ kind-check m j c = refuse (other-kind (m .order .kinds) j c) (fault KIND in-orde
 unfoldable pub kind : Making → Given → Option Fault
 kind m g =
     first-of (refuse (not (same-kind (g .value .kind) (m .state .kind))) (fault KIND in-state 0 0)
-      ∷ at-column (kind-check m) 0 (order-columns g) ∷ [])
+    ∷ at-column (kind-check m) 0 (order-columns g) ∷ [])
 
 abbrev pub flag-rows : Option Flags → ℕ → ℕ
 flag-rows None n = n
@@ -61,7 +61,7 @@ rows-check n j c = rows-differ (order-column j) (c .rows) n
 unfoldable pub rows : Given → Option Flags → Option Fault
 rows g marks =
     first-of (at-column (rows-check (g .value .rows)) 0 (order-columns g)
-      ∷ rows-differ 4 (flag-rows marks (g .value .rows)) (g .value .rows) ∷ [])
+    ∷ rows-differ 4 (flag-rows marks (g .value .rows)) (g .value .rows) ∷ [])
 
 -- LONG in the first n rows of order column j
 abbrev pub long-check : Making → List ℕ → ℕ → Column → Option Fault
@@ -70,18 +70,18 @@ long-check m rs j c = at-row (λ r. not (m .order .takes j (cell-at c r))) (λ r
 unfoldable pub long : Making → Given → Option Fault
 long m g =
     first-of (at-row (λ r. not (m .state .takes (cell-at (g .value) r))) (λ r. fault LONG in-state 0 r) (every-row g)
-      ∷ at-column (long-check m (every-row g)) 0 (order-columns g) ∷ [])
+    ∷ at-column (long-check m (every-row g)) 0 (order-columns g) ∷ [])
 
 abbrev pub batch-checks : Making → ℕ → Batch → Option Flags → List (Option Fault)
 batch-checks m held b marks =
     cols m (b .columns)
-      ∷ kind m (b .columns)
-      ∷ rows (b .columns) marks
-      ∷ rows-differ 9 (length (b .indices)) (b .columns .value .rows)
-      ∷ refuse (ltb 256 (b .total)) (own TOTAL)
-      ∷ refuse (ltb (b .total) held) (own SHRUNK)
-      ∷ at-row (λ r. leb (b .total) (getD (b .indices) r 0)) (λ r. fault GROUP in-accumulator 9 r) (every-row (b .columns))
-      ∷ long m (b .columns) ∷ []
+    ∷ kind m (b .columns)
+    ∷ rows (b .columns) marks
+    ∷ rows-differ 9 (length (b .indices)) (b .columns .value .rows)
+    ∷ refuse (ltb 256 (b .total)) (own TOTAL)
+    ∷ refuse (ltb (b .total) held) (own SHRUNK)
+    ∷ at-row (λ r. leb (b .total) (getD (b .indices) r 0)) (λ r. fault GROUP in-accumulator 9 r) (every-row (b .columns))
+    ∷ long m (b .columns) ∷ []
 
 unfoldable pub batch-declined : Making → ℕ → Batch → Option Flags → Option Fault
 batch-declined m held b marks = first-of (batch-checks m held b marks)

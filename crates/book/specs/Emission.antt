@@ -88,10 +88,10 @@ unfoldable pub state-declined : Making → List (Option Row) → To → Outputs 
 state-declined m ws to o =
     let out = take (emits to (length ws)) ws in
     first-of (fewer to (length ws)
-      ∷ refuse (eqb (emits to (length ws)) 0) (own EMPTY)
-      ∷ values-short m out (o .values)
-      ∷ keys-short 0 (key-parts 0 (m .order .kinds) out) (o .keys)
-      ∷ flags-short (set-parts out) (o .flags) ∷ [])
+    ∷ refuse (eqb (emits to (length ws)) 0) (own EMPTY)
+    ∷ values-short m out (o .values)
+    ∷ keys-short 0 (key-parts 0 (m .order .kinds) out) (o .keys)
+    ∷ flags-short (set-parts out) (o .flags) ∷ [])
 
 -- Conversion
 

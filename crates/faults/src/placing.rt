@@ -14,7 +14,11 @@ pub impl From<At<StateFault>> for Fault as FaultFromState {
     ghost converts = { λ e r. r ≡ record { refusal = State (e .fault); column = e .column; row = e .row } };
 
     fn from(e: At<StateFault>) -> Fault {
-        Fault { refusal: Refusal::State(e.fault), column: e.column, row: e.row }
+        Fault {
+            refusal: Refusal::State(e.fault),
+            column: e.column,
+            row: e.row,
+        }
     }
 }
 
@@ -22,7 +26,11 @@ pub impl From<At<OrderFault>> for Fault as FaultFromOrder {
     ghost converts = { λ e r. r ≡ record { refusal = Order (e .fault); column = e .column; row = e .row } };
 
     fn from(e: At<OrderFault>) -> Fault {
-        Fault { refusal: Refusal::Order(e.fault), column: e.column, row: e.row }
+        Fault {
+            refusal: Refusal::Order(e.fault),
+            column: e.column,
+            row: e.row,
+        }
     }
 }
 
@@ -56,5 +64,9 @@ pub fn order_at<T>(r: Result<T, OrderFault>, column: u8, row: usize) -> Result<T
 pub fn own(fault: OwnFault, column: u8, row: usize) -> Fault
     ensures { λ r. ⌜ r ≡ record { refusal = Own fault; column = column; row = row } ⌝ }
 {
-    Fault { refusal: Refusal::Own(fault), column, row }
+    Fault {
+        refusal: Refusal::Own(fault),
+        column,
+        row,
+    }
 }

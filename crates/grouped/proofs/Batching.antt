@@ -57,8 +57,8 @@ module _ {S O : Type 0} (es : S → List (List Cell)) (ss : S → Settings) (eo 
 
   module _ (a : FirstLastGroupsAccumulator S O) (b : Batch) (marks : Option Flags) (o : Outputs) where
     pub declines : (x : Fault) → Some x ≡ batch-declined (made-of ss so a) (length (flags-of (a .slots))) b marks → (r : Result) → r ≡ refused x
-      → (ws : Held) → Shows (shown es ss eo so) a ws
-      → (record { result = r; outputs = o } ≡ reply (made-of ss so a) ws (update b marks) o) × Shows (shown es ss eo so) a (held-after (made-of ss so a) ws (update b marks) o)
+        → (ws : Held) → Shows (shown es ss eo so) a ws
+        → (record { result = r; outputs = o } ≡ reply (made-of ss so a) ws (update b marks) o) × Shows (shown es ss eo so) a (held-after (made-of ss so a) ws (update b marks) o)
     declines x e r is ws h =
         let d : batch-declined (made-of ss so a) (length ws) b marks ≡ Some x = ap (λ n. batch-declined (made-of ss so a) n b marks) (sym (flags-length h)) ∙ sym e in
         (rw (is, d), rw d h)
@@ -101,12 +101,12 @@ module _ {S O : Type 0} (es : S → List (List Cell)) (ss : S → Settings) (eo 
 
   module _ (a a₁ a₂ : FirstLastGroupsAccumulator S O) (b : Batch) (marks : Option Flags) (o : Outputs) (laws : Lawful (made-of ss so a)) (rows : ℕ → Option ℕ) where
     pub finishes : batch-declined (made-of ss so a) (length (flags-of (a .slots))) b marks ≡ None
-      → Grown (ss (a .state) .kinds) (so (a .order) .kinds) (b .total) (tab a) (tab a₁) → Made a a₁ → Made a₁ a₂
-      → ((k : ℕ) → Best (made-of ss so a₁) (b .columns) (b .indices) marks k (length (b .indices)) (rows k))
-      → tab a₂ ≡ take-below (so (a₁ .order)) (a₁ .«pick_first_in_group») (b .columns .value) (order-columns (b .columns)) (tab a₁) rows (b .total)
-      → (r : Result) → r ≡ done
-      → (ws : Held) → Shows (shown es ss eo so) a ws
-      → (record { result = r; outputs = o } ≡ reply (made-of ss so a) ws (update b marks) o) × Shows (shown es ss eo so) a₂ (held-after (made-of ss so a) ws (update b marks) o)
+        → Grown (ss (a .state) .kinds) (so (a .order) .kinds) (b .total) (tab a) (tab a₁) → Made a a₁ → Made a₁ a₂
+        → ((k : ℕ) → Best (made-of ss so a₁) (b .columns) (b .indices) marks k (length (b .indices)) (rows k))
+        → tab a₂ ≡ take-below (so (a₁ .order)) (a₁ .«pick_first_in_group») (b .columns .value) (order-columns (b .columns)) (tab a₁) rows (b .total)
+        → (r : Result) → r ≡ done
+        → (ws : Held) → Shows (shown es ss eo so) a ws
+        → (record { result = r; outputs = o } ≡ reply (made-of ss so a) ws (update b marks) o) × Shows (shown es ss eo so) a₂ (held-after (made-of ss so a) ws (update b marks) o)
     finishes e grew m₁ m₂ best after r is ws h =
         let m = made-of ss so a in
         let ks = so (a .order) .kinds in
@@ -117,15 +117,17 @@ module _ {S O : Type 0} (es : S → List (List Cell)) (ss : S → Settings) (eo 
         let l₁ : length ws₁ ≡ b .total = grows-long ws None (b .total) (let z = p .room in omega arith) in
         let t₁ : Told ks (tab a₁) ws₁ = subst (λ t. Told ks t ws₁) (sym (grew .grows-so)) (grown-told (ss (a .state) .kinds) ks (tab a) ws (b .total) (told a b marks o ws h)) in
         let t₂ : Told ks (tab a₂) (took m (b .columns) ws₁ rows (b .total)) =
-              subst (λ t. Told ks t (took m (b .columns) ws₁ rows (b .total)))
-                (sym (after ∙ ap₂ (λ x y. take-below x y (b .columns .value) (order-columns (b .columns)) (tab a₁) rows (b .total)) (m₁ .order) (m₁ .first)))
-                (below-told m laws (b .columns) ks (tab a₁) ws₁ rows (b .total) t₁ (omega arith)) in
+        subst (λ t. Told ks t (took m (b .columns) ws₁ rows (b .total)))
+        (sym (after ∙ ap₂ (λ x y. take-below x y (b .columns .value) (order-columns (b .columns)) (tab a₁) rows (b .total)) (m₁ .order) (m₁ .first)))
+        (below-told m laws (b .columns) ks (tab a₁) ws₁ rows (b .total) t₁ (omega arith)) in
         let won : (k : ℕ) → Best m (b .columns) (b .indices) marks k (b .columns .value .rows) (rows k) =
-              λ k. subst (λ n. Best m (b .columns) (b .indices) marks k n (rows k)) (p .sized) (subst (λ n. Best n (b .columns) (b .indices) marks k (length (b .indices)) (rows k)) (made-same a a₁ m₁) (best k)) in
+        λ k. subst (λ n. Best m (b .columns) (b .indices) marks k n (rows k)) (p .sized) (subst (λ n. Best n (b .columns) (b .indices) marks k (length (b .indices)) (rows k)) (made-same a a₁ m₁) (best k)) in
         let met-so : took m (b .columns) ws₁ rows (b .total) ≡ met m ws₁ (entries m b marks) = took-is-met m laws b marks ws₁ rows l₁ (λ k. won k .wins-so) in
-        let t₃ : Told ks (tab a₂) (met m ws₁ (entries m b marks)) = subst (Told ks (tab a₂)) met-so t₂ in
-        (rw (is, d), rw d (record {
-          flags = t₃ .flags;
-          values = t₃ .cells;
-          keys = t₃ .keys ∙ ap (λ (x : Settings). map (key-cells (x .kinds)) (met m ws₁ (entries m b marks))) (sym (m₂ .order ∙ m₁ .order));
-        }))
+        let t₃ : Told ks (tab a₂) (met m ws₁ (entries m b marks)) = subst (Told ks (tab a₂)) met-so t₂ in (
+          rw (is, d),
+          rw d (record {
+            flags = t₃ .flags;
+            values = t₃ .cells;
+            keys = t₃ .keys ∙ ap (λ (x : Settings). map (key-cells (x .kinds)) (met m ws₁ (entries m b marks))) (sym (m₂ .order ∙ m₁ .order));
+          }),
+        )

@@ -44,7 +44,7 @@ value-kind-is k c = go (same-kind (c .kind) k)
     go false = refl
 
 pub value-long-is : (s : Settings) (c : Column) (r : ℕ) → same-kind (c .kind) (state-of s .kind) ≡ true → r < c .rows
-  → declined-seen (state-placed (outcome (cell-refused s false c r) (tt {0})) 0 r) ≡ refuse (not (s .takes 0 (cell-at c r))) (fault LONG in-state 0 r)
+    → declined-seen (state-placed (outcome (cell-refused s false c r) (tt {0})) 0 r) ≡ refuse (not (s .takes 0 (cell-at c r))) (fault LONG in-state 0 r)
 unfolding cell-refused
 value-long-is s c r k l = rw (k, lt-ltb r (c .rows) l) (go (s .takes 0 (cell-at c r)))
   where
@@ -53,7 +53,7 @@ value-long-is s c r k l = rw (k, lt-ltb r (c .rows) l) (go (s .takes 0 (cell-at 
     go true = refl
 
 pub order-kind-is : (ks : List Kind) (j : ℕ) (c : Column) (n : ℕ) → j < length ks
-  → declined-seen (order-placed (outcome (named-unread ks j c) (tt {0})) n 0) ≡ refuse (other-kind ks j c) (fault KIND in-order n 0)
+    → declined-seen (order-placed (outcome (named-unread ks j c) (tt {0})) n 0) ≡ refuse (other-kind ks j c) (fault KIND in-order n 0)
 unfolding named-unread
 order-kind-is ks j c n h = rw (lt-leb (length ks) j h) (go (other-kind ks j c))
   where
@@ -62,7 +62,7 @@ order-kind-is ks j c n h = rw (lt-leb (length ks) j h) (go (other-kind ks j c))
     go false = refl
 
 pub order-long-is : (s : Settings) (j : ℕ) (c : Column) (r n : ℕ) → j < length (s .kinds) → other-kind (s .kinds) j c ≡ false → r < c .rows
-  → declined-seen (order-placed (outcome (named-refused s j c r) (tt {0})) n r) ≡ refuse (not (s .takes j (cell-at c r))) (fault LONG in-order n r)
+    → declined-seen (order-placed (outcome (named-refused s j c r) (tt {0})) n r) ≡ refuse (not (s .takes j (cell-at c r))) (fault LONG in-order n r)
 unfolding named-refused named-unread
 order-long-is s j c r n p k l = rw (lt-leb (length (s .kinds)) j p, k, lt-ltb r (c .rows) l) (go (s .takes j (cell-at c r)))
   where
@@ -77,7 +77,7 @@ first-one None = refl
 first-one (Some f) = refl
 
 pub row-next : (test : ℕ → Bool) (f : ℕ → Fault) (n i : ℕ) → i < n → refuse (test i) (f i) ≡ None
-  → at-row test f (count-up i (n - i)) ≡ at-row test f (count-up (i + 1) (n - (i + 1)))
+    → at-row test f (count-up i (n - i)) ≡ at-row test f (count-up (i + 1) (n - (i + 1)))
 row-next test f n i h e =
     let k : n - i ≡ suc (n - (i + 1)) = omega arith in
     rw (k, add-one i) (go (test i) e)
@@ -105,20 +105,20 @@ pub seen-at : (os : List code.Column) (n j : ℕ) (d : code.Column) → j < n �
 seen-at os n j d h = getD-take n (map column-seen os) j (column-seen d) h ∙ List·getD-map column-seen os j d
 
 pub column-next : (check : ℕ → Column → Option Fault) (os : List code.Column) (n j : ℕ) (d : code.Column) → n ≤ length os → j < n
-  → check j (column-seen (getD os j d)) ≡ None → at-column check j (drop j (columns-seen os n)) ≡ at-column check (j + 1) (drop (j + 1) (columns-seen os n))
+    → check j (column-seen (getD os j d)) ≡ None → at-column check j (drop j (columns-seen os n)) ≡ at-column check (j + 1) (drop (j + 1) (columns-seen os n))
 column-next check os n j d l h e =
     let k = length-seen os n l in
     ap (at-column check j) (drop-more (columns-seen os n) j (column-seen d) (omega arith) ∙ ap (λ c. c ∷ drop (j + 1) (columns-seen os n)) (seen-at os n j d h))
-      ∙ ap (λ o. first-of (o ∷ at-column check (suc j) (drop (j + 1) (columns-seen os n)) ∷ [])) e
-      ∙ first-one (at-column check (suc j) (drop (j + 1) (columns-seen os n)))
-      ∙ ap (λ i. at-column check i (drop (j + 1) (columns-seen os n))) (sym (add-one j))
+    ∙ ap (λ o. first-of (o ∷ at-column check (suc j) (drop (j + 1) (columns-seen os n)) ∷ [])) e
+    ∙ first-one (at-column check (suc j) (drop (j + 1) (columns-seen os n)))
+    ∙ ap (λ i. at-column check i (drop (j + 1) (columns-seen os n))) (sym (add-one j))
 
 pub column-here : (check : ℕ → Column → Option Fault) (os : List code.Column) (n j : ℕ) (d : code.Column) (x : Fault) → n ≤ length os → j < n
-  → check j (column-seen (getD os j d)) ≡ Some x → at-column check j (drop j (columns-seen os n)) ≡ Some x
+    → check j (column-seen (getD os j d)) ≡ Some x → at-column check j (drop j (columns-seen os n)) ≡ Some x
 column-here check os n j d x l h e =
     let k = length-seen os n l in
     ap (at-column check j) (drop-more (columns-seen os n) j (column-seen d) (omega arith) ∙ ap (λ c. c ∷ drop (j + 1) (columns-seen os n)) (seen-at os n j d h))
-      ∙ ap (λ o. first-of (o ∷ at-column check (suc j) (drop (j + 1) (columns-seen os n)) ∷ [])) e
+    ∙ ap (λ o. first-of (o ∷ at-column check (suc j) (drop (j + 1) (columns-seen os n)) ∷ [])) e
 
 pub column-done : (check : ℕ → Column → Option Fault) (os : List code.Column) (n j : ℕ) → n ≤ length os → n ≤ j → at-column check j (drop j (columns-seen os n)) ≡ None
 column-done check os n j l h = let k = length-seen os n l in ap (at-column check j) (drop-all j (columns-seen os n) (omega arith))
@@ -145,7 +145,7 @@ column-none check (c ∷ cs) i (suc j) d e h =
 
 -- what held of no column held not of column j
 pub column-passed : (check : ℕ → Column → Option Fault) (os : List code.Column) (n j : ℕ) (d : code.Column) → n ≤ length os → j < n
-  → at-column check 0 (columns-seen os n) ≡ None → check j (column-seen (getD os j d)) ≡ None
+    → at-column check 0 (columns-seen os n) ≡ None → check j (column-seen (getD os j d)) ≡ None
 column-passed check os n j d l h e =
     let k = length-seen os n l in
     let z : 0 + j ≡ j = omega arith in
@@ -207,7 +207,7 @@ and-false true = refl
 and-false false = refl
 
 pub cols-same : (m : Making) (v : code.Column) (os : List code.Column) (n : ℕ) → length os ≡ 3
-  → refuse (not (eqb n (length (m .order .kinds)) && (leb 1 n && leb n 3))) (own COLS) ≡ cols m (given-seen v os n)
+    → refuse (not (eqb n (length (m .order .kinds)) && (leb 1 n && leb n 3))) (own COLS) ≡ cols m (given-seen v os n)
 unfolding cols
 cols-same m v os n l = go (leb n 3) refl
   where

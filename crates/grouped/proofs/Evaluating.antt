@@ -55,9 +55,9 @@ writing-is s es n before h = rw (drop-fine (length es) n h) (go (not (fits (cell
     go false = refl
 
 pub taking : (s : Settings) (es es′ : List (List Cell)) (n : ℕ) (before after-it : Parts) → n ≤ length es
-  → after-it ≡ unless-refused (writing s es n before) (written (cells-laid s es n) before) before
-  → es′ ≡ unless-refused (writing s es n before) (drop n es) es
-  → Took (state-of s .kind) n (first-cells es) before (fits (cells-laid s es n) before) (first-cells es′) after-it
+    → after-it ≡ unless-refused (writing s es n before) (written (cells-laid s es n) before) before
+    → es′ ≡ unless-refused (writing s es n before) (drop n es) es
+    → Took (state-of s .kind) n (first-cells es) before (fits (cells-laid s es n) before) (first-cells es′) after-it
 taking s es es′ n before after-it h p q =
     let w = writing-is s es n before h in
     record {
@@ -69,12 +69,13 @@ taking s es es′ n before after-it h p q =
     kept-cells : (b : Bool) → first-cells (unless-refused (refuse (not b) state-fault.Space) (drop n es) es) ≡ cond b (drop n (first-cells es)) (first-cells es)
     kept-cells true = sym (drop-map (λ e. getD e 0 null) n es)
     kept-cells false = refl
+
     kept-parts : (b : Bool) (new : Parts) → unless-refused (refuse (not b) state-fault.Space) new before ≡ cond b new before
     kept-parts true new = refl
     kept-parts false new = refl
 
 pub took-on : (s : Settings) (es : List (List Cell)) (n : ℕ) (before : Parts) (r : Result (Unit {0}) StateFault) (x : Unit {0}) → n ≤ length es
-  → r ≡ outcome (writing s es n before) tt → Ok x ≡ state-placed r 0 0 → fits (cells-laid s es n) before ≡ true
+    → r ≡ outcome (writing s es n before) tt → Ok x ≡ state-placed r 0 0 → fits (cells-laid s es n) before ≡ true
 took-on s es n before r x h e k =
     go (fits (cells-laid s es n) before) (k ∙ ap (λ y. state-placed y 0 0) (e ∙ ap (λ o. outcome o tt) (writing-is s es n before h)))
   where
@@ -83,12 +84,13 @@ took-on s es n before r x h e k =
     go false q = absurd (let z : _≡_ {A = ℕ} 0 1 = cc in omega arith)
 
 pub took-not : (s : Settings) (es : List (List Cell)) (n : ℕ) (before : Parts) (r : Result (Unit {0}) StateFault) (f : coded.Fault) → n ≤ length es
-  → r ≡ outcome (writing s es n before) tt → Err f ≡ state-placed r 0 0 → (fits (cells-laid s es n) before ≡ false) × (fault-seen f ≡ fault SPACE in-state 0 0)
+    → r ≡ outcome (writing s es n before) tt → Err f ≡ state-placed r 0 0 → (fits (cells-laid s es n) before ≡ false) × (fault-seen f ≡ fault SPACE in-state 0 0)
 took-not s es n before r f h e k =
     go (fits (cells-laid s es n) before) (k ∙ ap (λ y. state-placed y 0 0) (e ∙ ap (λ o. outcome o tt) (writing-is s es n before h)))
   where
     err-inj : (x y : coded.Fault) → _≡_ {A = Result (Unit {0}) coded.Fault} (Err x) (Err y) → x ≡ y
     err-inj x y q = cc
+
     go : (b : Bool) → Err f ≡ state-placed (outcome (refuse (not b) state-fault.Space) (tt {0})) 0 0 → (b ≡ false) × (fault-seen f ≡ fault SPACE in-state 0 0)
     go true q = absurd (let z : _≡_ {A = ℕ} 0 1 = cc in omega arith)
     go false q = (refl, ap fault-seen (err-inj f (record { refusal = State state-fault.Space; column = 0; row = 0 }) q))
@@ -114,12 +116,12 @@ unfolding evaluate-declined
 declined-fewer m ws to o h = rw (lt-ltb (length ws) (emits to (length ws)) h)
 
 declined-short : (m : Making) (ws : List (Option Row)) (to : To) (o : Outputs) → emits to (length ws) ≤ length ws
-  → fits (value-parts m (take (emits to (length ws)) ws)) (o .values) ≡ false → evaluate-declined m ws to o ≡ Some (fault SPACE in-state 0 0)
+    → fits (value-parts m (take (emits to (length ws)) ws)) (o .values) ≡ false → evaluate-declined m ws to o ≡ Some (fault SPACE in-state 0 0)
 unfolding evaluate-declined
 declined-short m ws to o h e = rw (le-ltb (length ws) (emits to (length ws)) h, e)
 
 declined-none : (m : Making) (ws : List (Option Row)) (to : To) (o : Outputs) → emits to (length ws) ≤ length ws
-  → fits (value-parts m (take (emits to (length ws)) ws)) (o .values) ≡ true → evaluate-declined m ws to o ≡ None
+    → fits (value-parts m (take (emits to (length ws)) ws)) (o .values) ≡ true → evaluate-declined m ws to o ≡ None
 unfolding evaluate-declined
 declined-none m ws to o h e = rw (le-ltb (length ws) (emits to (length ws)) h, e)
 
@@ -137,7 +139,7 @@ module _ {S O : Type 0} (v : Shown S O) (a : FirstLastGroupsAccumulator S O) (to
   emitted-is = ap (emits to) (sym held-many) ∙ sym is
 
   pub eval-fewer : (o : Outputs) (r : Result-seen) → r ≡ refused (own FEWER) → a .slots .len < n
-    → (record { result = r; outputs = o } ≡ reply (making v a) ws (evaluate to) o) × Shows v a (held-after (making v a) ws (evaluate to) o)
+      → (record { result = r; outputs = o } ≡ reply (making v a) ws (evaluate to) o) × Shows v a (held-after (making v a) ws (evaluate to) o)
   eval-fewer o r k l =
       let e = declined-fewer (making v a) ws to o (let p = held-many in let q = emitted-is in omega arith) in
       (rw (k, e), rw e h)
@@ -154,7 +156,7 @@ module _ {S O : Type 0} (v : Shown S O) (a : FirstLastGroupsAccumulator S O) (to
     inside = let p = held-many in let q = emitted-is in omega arith
 
     pub eval-short : r ≡ false → (x : Result-seen) → x ≡ refused (fault SPACE in-state 0 0)
-      → (record { result = x; outputs = values-only after-it } ≡ reply (making v a) ws (evaluate to) (values-only before))
+        → (record { result = x; outputs = values-only after-it } ≡ reply (making v a) ws (evaluate to) (values-only before))
         × Shows v (record { state = s; order = a .order; slots = a .slots; «pick_first_in_group» = a .«pick_first_in_group»; «ignore_nulls» = a .«ignore_nulls» }) (held-after (making v a) ws (evaluate to) (values-only before))
     eval-short f x is-so =
         let e = declined-short (making v a) ws to (values-only before) inside (fits-are ∙ f) in
@@ -162,26 +164,27 @@ module _ {S O : Type 0} (v : Shown S O) (a : FirstLastGroupsAccumulator S O) (to
         (rw (is-so, e, w), rw e (record { flags = h .flags; values = took .cells-so ∙ ap (λ b. cond b (drop n (v .values (a .state))) (v .values (a .state))) f ∙ h .values; keys = h .keys }))
 
     pub eval-done : (q : O) → v .order-of q ≡ v .order-of (a .order) → v .keys q ≡ drop n (v .keys (a .order))
-      → (t : SlotTable) → flags-of t ≡ drop n (flags-of (a .slots)) → r ≡ true → (x : Result-seen) → x ≡ dropped n
-      → (record { result = x; outputs = values-only after-it } ≡ reply (making v a) ws (evaluate to) (values-only before))
+        → (t : SlotTable) → flags-of t ≡ drop n (flags-of (a .slots)) → r ≡ true → (x : Result-seen) → x ≡ dropped n
+        → (record { result = x; outputs = values-only after-it } ≡ reply (making v a) ws (evaluate to) (values-only before))
         × Shows v (record { state = s; order = q; slots = t; «pick_first_in_group» = a .«pick_first_in_group»; «ignore_nulls» = a .«ignore_nulls» }) (held-after (making v a) ws (evaluate to) (values-only before))
     eval-done q same keys-drop t flags-drop f x is-so =
         let e = declined-none (making v a) ws to (values-only before) inside (fits-are ∙ f) in
         let w : after-it ≡ written (value-parts (making v a) (take (emits to (length ws)) ws)) before =
-              took .written-so ∙ ap (λ b. cond b (written (laid-out (v .state-of (a .state) .kind) (take n (v .values (a .state)))) before) before) f
-                ∙ ap (λ cs. written (laid-out (v .state-of (a .state) .kind) cs) before) (sym cells-are) in
-        let d = sym emitted-is in
-        (rw (is-so, e, w) (ap (λ k. record { result = dropped k; outputs = values-only (written (value-parts (making v a) (take (emits to (length ws)) ws)) before) }) d),
-         rw e (record {
-           flags = flags-drop ∙ ap (drop n) (h .flags) ∙ drop-map is-set n ws ∙ ap (λ k. map is-set (drop k ws)) d;
-           values = took .cells-so ∙ ap (λ b. cond b (drop n (v .values (a .state))) (v .values (a .state))) f ∙ ap (drop n) (h .values) ∙ drop-map value-shown n ws ∙ ap (λ k. map value-shown (drop k ws)) d;
-           keys = keys-drop ∙ ap (drop n) (h .keys) ∙ drop-map (key-cells (v .order-of (a .order) .kinds)) n ws ∙ ap (λ k. map (key-cells (v .order-of (a .order) .kinds)) (drop k ws)) d
-             ∙ ap (λ x. map (key-cells (x .kinds)) (drop (emits to (length ws)) ws)) (sym same);
-         }))
+        took .written-so ∙ ap (λ b. cond b (written (laid-out (v .state-of (a .state) .kind) (take n (v .values (a .state)))) before) before) f
+        ∙ ap (λ cs. written (laid-out (v .state-of (a .state) .kind) cs) before) (sym cells-are) in
+        let d = sym emitted-is in (
+          rw (is-so, e, w) (ap (λ k. record { result = dropped k; outputs = values-only (written (value-parts (making v a) (take (emits to (length ws)) ws)) before) }) d),
+          rw e (record {
+            flags = flags-drop ∙ ap (drop n) (h .flags) ∙ drop-map is-set n ws ∙ ap (λ k. map is-set (drop k ws)) d;
+            values = took .cells-so ∙ ap (λ b. cond b (drop n (v .values (a .state))) (v .values (a .state))) f ∙ ap (drop n) (h .values) ∙ drop-map value-shown n ws ∙ ap (λ k. map value-shown (drop k ws)) d;
+            keys = keys-drop ∙ ap (drop n) (h .keys) ∙ drop-map (key-cells (v .order-of (a .order) .kinds)) n ws ∙ ap (λ k. map (key-cells (v .order-of (a .order) .kinds)) (drop k ws)) d
+                ∙ ap (λ x. map (key-cells (x .kinds)) (drop (emits to (length ws)) ws)) (sym same);
+          }),
+        )
 
 -- the making follows from the two settings and the two flags
 pub remade : (l i : Bool) {s s′ : State-meaning} {o o′ : Settings} → s ≡ s′ → o ≡ o′
-  → _≡_ {A = Making} (record { state = s; order = o; first = l; ignore-nulls = i }) (record { state = s′; order = o′; first = l; ignore-nulls = i })
+    → _≡_ {A = Making} (record { state = s; order = o; first = l; ignore-nulls = i }) (record { state = s′; order = o′; first = l; ignore-nulls = i })
 remade l i p q = λ k. record { state = p k; order = q k; first = l; ignore-nulls = i }
 
 pub cells-long : (es : List (List Cell)) → length (first-cells es) ≡ length es

@@ -15,9 +15,9 @@ pub flags-length : {S O : Type 0} {v : Shown S O} {a : FirstLastGroupsAccumulato
 flags-length {ws = ws} h = ap length (h .flags) ∙ length-map ws is-set
 
 pub obeys-from-held : {S O : Type 0} (v : Shown S O) → ((s : S) → State-laws (v .state-of s)) → ((o : O) → Order-laws (v .order-of o))
-  → (a : FirstLastGroupsAccumulator S O) (c : Call) (o : Outputs) (r : Answer) (a′ : FirstLastGroupsAccumulator S O)
-  → making v a′ ≡ making v a
-  → ((ws : List (Option Row)) → Shows v a ws → (r ≡ reply (making v a) ws c o) × Shows v a′ (held-after (making v a) ws c o)) → Obeys v a c o r a′
+    → (a : FirstLastGroupsAccumulator S O) (c : Call) (o : Outputs) (r : Answer) (a′ : FirstLastGroupsAccumulator S O)
+    → making v a′ ≡ making v a
+    → ((ws : List (Option Row)) → Shows v a ws → (r ≡ reply (making v a) ws c o) × Shows v a′ (held-after (making v a) ws c o)) → Obeys v a c o r a′
 obeys-from-held v state-laws order-laws a c o r a′ same does =
     let m = making v a in
     let laws : Lawful m = record { of-state = state-laws (a .state); of-order = order-laws (a .order) } in

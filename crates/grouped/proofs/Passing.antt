@@ -25,7 +25,7 @@ not-false true e = refl
 not-false false e = sym e
 
 some-column-none : (check : ℕ → Column → Option Fault) (p : ℕ → Column → Bool) → ((j : ℕ) (c : Column) → check j c ≡ None → p j c ≡ false)
-  → (cs : List Column) (i : ℕ) → at-column check i cs ≡ None → some-column p i cs ≡ false
+    → (cs : List Column) (i : ℕ) → at-column check i cs ≡ None → some-column p i cs ≡ false
 some-column-none check p h [] i e = refl
 some-column-none check p h (c ∷ cs) i e =
     let q = first-two-none (check i c) (at-column check (suc i) cs) e in
@@ -36,7 +36,7 @@ row-none test f s zero r e h l = absurd (omega arith)
 row-none test f s (suc n) r e h l = go (test s) refl e (row-none test f (suc s) n r)
   where
     go : (b : Bool) → test s ≡ b → cond b (Some (f s)) (at-row test f (count-up (suc s) n)) ≡ None
-      → (at-row test f (count-up (suc s) n) ≡ None → suc s ≤ r → r < suc s + n → test r ≡ false) → test r ≡ false
+        → (at-row test f (count-up (suc s) n) ≡ None → suc s ≤ r → r < suc s + n → test r ≡ false) → test r ≡ false
     go true k q ih = cc
     go false k q ih = ⊎-elim (λ z. ap test z ∙ k) (λ z. ih q (omega (arith, z)) (omega arith)) (cases-eq r s)
 
@@ -61,11 +61,11 @@ module _ (m : Making) (g : Given) (col : cols m g ≡ None) (kin : kind m g ≡ 
   unfolding key-refused key-unfit
   key-passes r h =
       let k : some-column (other-kind (m .order .kinds)) 0 (order-columns g) ≡ false =
-            some-column-none (kind-check m) (other-kind (m .order .kinds)) (λ j c e. refuse-none (other-kind (m .order .kinds) j c) (fault KIND in-order (order-column j) 0) e) (order-columns g) 0 (kind-parts m g kin .1) in
+      some-column-none (kind-check m) (other-kind (m .order .kinds)) (λ j c e. refuse-none (other-kind (m .order .kinds) j c) (fault KIND in-order (order-column j) 0) e) (order-columns g) 0 (kind-parts m g kin .1) in
       let n : past-column (order-columns g) r ≡ false =
-            some-column-none (rows-check (g .value .rows)) (λ j c. not (ltb r (c .rows))) (λ j c e. ap not (lt-ltb r (c .rows) (let z = rows-same (c .rows) (g .value .rows) (fault ROWS in-accumulator (order-column j) 0) e in omega arith))) (order-columns g) 0 same in
+      some-column-none (rows-check (g .value .rows)) (λ j c. not (ltb r (c .rows))) (λ j c e. ap not (lt-ltb r (c .rows) (let z = rows-same (c .rows) (g .value .rows) (fault ROWS in-accumulator (order-column j) 0) e in omega arith))) (order-columns g) 0 same in
       let l : untaken (m .order) (order-columns g) r ≡ false =
-            some-column-none (long-check m (every-row g)) (λ j c. not (m .order .takes j (cell-at c r))) (λ j c e. row-none (λ r. not (m .order .takes j (cell-at c r))) (λ r. fault LONG in-order (order-column j) r) 0 (g .value .rows) r e (omega arith) (omega arith)) (order-columns g) 0 (long-parts .1) in
+      some-column-none (long-check m (every-row g)) (λ j c. not (m .order .takes j (cell-at c r))) (λ j c e. row-none (λ r. not (m .order .takes j (cell-at c r))) (λ r. fault LONG in-order (order-column j) r) 0 (g .value .rows) r e (omega arith) (omega arith)) (order-columns g) 0 (long-parts .1) in
       rw (fits, k, n, l)
 
   pub cell-passes : (s : Settings) → m .state ≡ state-of s → (r : ℕ) → r < g .value .rows → cell-refused s false (g .value) r ≡ None

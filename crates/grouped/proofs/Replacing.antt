@@ -33,13 +33,13 @@ ok-inj x y e = cc
 
 module _ (s : Settings) (first : Bool) (v : Column) (cs : List Column) where
   pub row-taken : (fs : List Bool) (vs ks : List (List Cell)) (g r : ℕ) (fs′ : List Bool) (vs′ ks′ : List (List Cell))
-    → wins s first (getD fs g false) (getD ks g []) (key-at cs r) ≡ true → fs′ ≡ set fs g true → vs′ ≡ set vs g (cell-at v r ∷ []) → ks′ ≡ set ks g (key-at cs r)
-    → table fs′ vs′ ks′ ≡ take-row s first v cs (table fs vs ks) g r
+      → wins s first (getD fs g false) (getD ks g []) (key-at cs r) ≡ true → fs′ ≡ set fs g true → vs′ ≡ set vs g (cell-at v r ∷ []) → ks′ ≡ set ks g (key-at cs r)
+      → table fs′ vs′ ks′ ≡ take-row s first v cs (table fs vs ks) g r
   unfolding take-row
   row-taken fs vs ks g r fs′ vs′ ks′ w a b c = rw (a, b, c, w)
 
   pub row-left : (fs : List Bool) (vs ks : List (List Cell)) (g r : ℕ) → wins s first (getD fs g false) (getD ks g []) (key-at cs r) ≡ false
-    → table fs vs ks ≡ take-row s first v cs (table fs vs ks) g r
+      → table fs vs ks ≡ take-row s first v cs (table fs vs ks) g r
   unfolding take-row
   row-left fs vs ks g r w = rw w
 

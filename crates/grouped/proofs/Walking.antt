@@ -44,9 +44,9 @@ both-taken s cs n a b p q =
     go (not (cols-fit (s .kinds) cs n)) (some-column (other-kind (s .kinds)) 0 cs) (past-column cs a) (past-column cs b) (untaken s cs a) (untaken s cs b) p q
   where
     go : (x y r r′ l l′ : Bool)
-      → first-of (first-of (refuse x order.Cols ∷ None ∷ refuse y order.Kind ∷ refuse (r || false) order.Rows ∷ []) ∷ refuse (l || false) order.Long ∷ []) ≡ None
-      → first-of (first-of (refuse x order.Cols ∷ None ∷ refuse y order.Kind ∷ refuse (r′ || false) order.Rows ∷ []) ∷ refuse (l′ || false) order.Long ∷ []) ≡ None
-      → first-of (first-of (refuse x order.Cols ∷ None ∷ refuse y order.Kind ∷ refuse (r || (r′ || false)) order.Rows ∷ []) ∷ refuse (l || (l′ || false)) order.Long ∷ []) ≡ None
+        → first-of (first-of (refuse x order.Cols ∷ None ∷ refuse y order.Kind ∷ refuse (r || false) order.Rows ∷ []) ∷ refuse (l || false) order.Long ∷ []) ≡ None
+        → first-of (first-of (refuse x order.Cols ∷ None ∷ refuse y order.Kind ∷ refuse (r′ || false) order.Rows ∷ []) ∷ refuse (l′ || false) order.Long ∷ []) ≡ None
+        → first-of (first-of (refuse x order.Cols ∷ None ∷ refuse y order.Kind ∷ refuse (r || (r′ || false)) order.Rows ∷ []) ∷ refuse (l || (l′ || false)) order.Long ∷ []) ≡ None
     go true y r r′ l l′ e f = e
     go false true r r′ l l′ e f = e
     go false false true r′ l l′ e f = cc
@@ -78,14 +78,14 @@ push-if true xs y = xs ++ y ∷ []
 push-if false xs y = xs ++ []
 
 rows-push : (m : Making) (g : Given) (ix : List ℕ) (marks : Option Flags) (k n : ℕ)
-  → group-rows m g ix marks k (suc n) ≡ push-if (eqb (getD ix n 0) k && admitted m g marks n) (group-rows m g ix marks k n) (row-at g n)
+    → group-rows m g ix marks k (suc n) ≡ push-if (eqb (getD ix n 0) k && admitted m g marks n) (group-rows m g ix marks k n) (row-at g n)
 rows-push m g ix marks k n =
     let p : ℕ → Bool = λ r. eqb (getD ix r 0) k && admitted m g marks r in
     let z : 0 + n ≡ n = omega arith in
     ap (λ l. map (row-at g) (kept-by p l)) (count-push 0 n ∙ ap (λ i. count-up 0 n ++ i ∷ []) z)
-      ∙ ap (map (row-at g)) (kept-by-append p (count-up 0 n) (n ∷ []))
-      ∙ map-append (row-at g) (kept-by p (count-up 0 n)) (kept-by p (n ∷ []))
-      ∙ go (p n)
+    ∙ ap (map (row-at g)) (kept-by-append p (count-up 0 n) (n ∷ []))
+    ∙ map-append (row-at g) (kept-by p (count-up 0 n)) (kept-by p (n ∷ []))
+    ∙ go (p n)
   where
     go : (b : Bool) → map (row-at g) (kept-by (λ r. eqb (getD ix r 0) k && admitted m g marks r) (count-up 0 n)) ++ map (row-at g) (cond b (n ∷ []) []) ≡ push-if b (group-rows m g ix marks k n) (row-at g n)
     go true = refl
@@ -96,9 +96,9 @@ step-under beats false o n r h e = omega (arith, h r e)
 step-under beats true None n r h e = let q : n ≡ r = cc in omega arith
 step-under beats true (Some a) n r h e = chosen (beats n a) e
   where
-  chosen : (b : Bool) → cond b (Some n) (Some a) ≡ Some r → r < n + 1
-  chosen true q = let z : n ≡ r = cc in omega arith
-  chosen false q = let z : a ≡ r = cc in omega (arith, h a refl)
+    chosen : (b : Bool) → cond b (Some n) (Some a) ≡ Some r → r < n + 1
+    chosen true q = let z : n ≡ r = cc in omega arith
+    chosen false q = let z : a ≡ r = cc in omega (arith, h a refl)
 
 found-cond : (g : Given) (b : Bool) (n a : ℕ) → found g (cond b (Some n) (Some a)) ≡ cond b (Some (row-at g n)) (Some (row-at g a))
 found-cond g true n a = refl
@@ -123,10 +123,10 @@ module _ (m : Making) (laws : Lawful m) (g : Given) where
   pushed false o xs n e = e ∙ sym (winner-append m laws xs [])
 
   pub best-more : (ix : List ℕ) (marks : Option Flags) (k n : ℕ) (o o′ : Option ℕ) → Best m g ix marks k n o
-    → o′ ≡ step (ahead-row (m .order) (m .first) (order-columns g)) (eqb (getD ix n 0) k && let-in (m .ignore-nulls) (g .value) marks n) o n → Best m g ix marks k (n + 1) o′
+      → o′ ≡ step (ahead-row (m .order) (m .first) (order-columns g)) (eqb (getD ix n 0) k && let-in (m .ignore-nulls) (g .value) marks n) o n → Best m g ix marks k (n + 1) o′
   unfolding admitted
   best-more ix marks k n o o′ h e = record {
     wins-so = ap (found g) e ∙ pushed (eqb (getD ix n 0) k && let-in (m .ignore-nulls) (g .value) marks n) o (group-rows m g ix marks k n) n (h .wins-so)
-      ∙ ap (winner m) (sym (rows-push m g ix marks k n)) ∙ ap (λ i. winner m (group-rows m g ix marks k i)) (sym (add-one n));
+        ∙ ap (winner m) (sym (rows-push m g ix marks k n)) ∙ ap (λ i. winner m (group-rows m g ix marks k i)) (sym (add-one n));
     among = λ r q. step-under (ahead-row (m .order) (m .first) (order-columns g)) (eqb (getD ix n 0) k && let-in (m .ignore-nulls) (g .value) marks n) o n r (h .among) (sym e ∙ q);
   }

@@ -18,9 +18,9 @@ ghost use Rattle.book.specs.Declines.{at-row, at-column, order-column, own as o
 ghost use Rattle.grouped.specs.Accumulators.{made-of, flags-of};
 ghost use Rattle.grouped.specs.Seen.{given-seen, batch-of};
 ghost use Rattle.faults.specs.Reported.{declined-seen};
+use crate::FirstLastGroupsAccumulator;
 use column::BoolColumn;
 use column::Column;
-use crate::FirstLastGroupsAccumulator;
 use faults::Fault;
 use faults::OwnFault;
 use faults::order_at;
@@ -87,7 +87,12 @@ fn order_rows(rows: usize, orders: [Column; 3], count: usize) -> Result<(), Faul
 }
 
 // ROWS among the order columns, then in the filter.
-fn check_rows(value: Column, orders: [Column; 3], count: usize, filter: Option<BoolColumn>) -> Result<(), Fault>
+fn check_rows(
+    value: Column,
+    orders: [Column; 3],
+    count: usize,
+    filter: Option<BoolColumn>,
+) -> Result<(), Fault>
     requires { ⌜ count ≤ 3 ⌝ }
     ensures { λ r. ⌜ declined-seen r ≡ rows (given-seen (value .entry) (orders .entry) count) (marks-seen (filter .entry)) ⌝ }
 {
@@ -159,7 +164,11 @@ impl<S: ValueState, O: RowOrder> FirstLastGroupsAccumulator<S, O> {
         requires within { ⌜ row < now column .rows ⌝ }
         ensures { λ r. ⌜ declined-seen r ≡ refuse (not (O·GroupTable .settings (now (self .entry) .order) .takes j (cell-at (column-seen (now (column .entry))) row))) (fault LONG in-order (order-column j) row) ⌝ }
     {
-        order_at(self.order.takes_named(j, column, row), column_number(j), row)
+        order_at(
+            self.order.takes_named(j, column, row),
+            column_number(j),
+            row,
+        )
     }
 
     // KIND among the order columns.
@@ -249,7 +258,15 @@ impl<S: ValueState, O: RowOrder> FirstLastGroupsAccumulator<S, O> {
     }
 
     // All checks of a batch.
-    pub(crate) fn check_batch(&self, value: Column, orders: [Column; 3], count: usize, indices: &[usize], filter: Option<BoolColumn>, total: usize) -> Result<(), Fault>
+    pub(crate) fn check_batch(
+        &self,
+        value: Column,
+        orders: [Column; 3],
+        count: usize,
+        indices: &[usize],
+        filter: Option<BoolColumn>,
+        total: usize,
+    ) -> Result<(), Fault>
         ensures { λ r. ⌜ declined-seen r ≡ batch-declined (made-of (S·GroupTable .settings) (O·GroupTable .settings) (now (self .entry))) (length (flags-of (now (self .entry) .slots))) (batch-of (value .entry) (orders .entry) count (now (indices .entry)) total) (marks-seen (filter .entry)) ⌝ }
     {
         self.check_cols(count)?;

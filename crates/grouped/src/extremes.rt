@@ -16,7 +16,10 @@ impl Extremes {
     pub(crate) fn none() -> Extremes
         ensures { λ r. ⌜ ((k : ℕ) → row-of r k ≡ None) ⌝ }
     {
-        Extremes { rows: [0; 256], marked: [false; 256] }
+        Extremes {
+            rows: [0; 256],
+            marked: [false; 256],
+        }
     }
 
     // The group's number and row, where it is marked.

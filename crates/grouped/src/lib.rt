@@ -11,7 +11,6 @@ mod taking;
 mod walk;
 
 pub use notice::ShiftNotice;
-
 use slots::SlotTable;
 
 // The first or last value of each group by ordering keys.

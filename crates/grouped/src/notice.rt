@@ -22,7 +22,11 @@ impl Drop for ShiftNotice {
 fn renumber_one(group: u32, dropped: u32) -> u32
     ensures { λ r. ⌜ r ≡ renumbered dropped group ⌝ }
 {
-    if group == 4294967295 || group < dropped { 4294967295 } else { group - dropped }
+    if group == 4294967295 || group < dropped {
+        4294967295
+    } else {
+        group - dropped
+    }
 }
 
 impl ShiftNotice {

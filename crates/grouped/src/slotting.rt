@@ -11,7 +11,10 @@ use crate::slots::SlotTable;
 pub(crate) fn no_slots() -> SlotTable
     ensures { λ r. ⌜ flags-of r ≡ [] ⌝ }
 {
-    SlotTable { set: [false; 256], len: 0 }
+    SlotTable {
+        set: [false; 256],
+        len: 0,
+    }
 }
 
 // Moves the flags from `n` up to `len` to the start.

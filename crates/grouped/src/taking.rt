@@ -11,9 +11,9 @@ ghost use Rattle.column.specs.Seen.{column-seen, columns-seen};
 ghost use Rattle.tables.specs.Refusals.{key-refused, cell-refused, key-at};
 ghost use Rattle.grouped.specs.Accumulators.{flags-of};
 ghost use Rattle.grouped.specs.Walk.{row-of, wins, table, take-row, take-maybe, take-below, Same-made, Grown, Grows-not};
-use column::Column;
 use crate::FirstLastGroupsAccumulator;
 use crate::extremes::Extremes;
+use column::Column;
 use faults::Fault;
 use faults::order_at;
 use faults::state_at;
@@ -34,7 +34,13 @@ impl<S: ValueState, O: RowOrder> FirstLastGroupsAccumulator<S, O> {
     }
 
     // Whether a group's winner of the batch replaces what is held.
-    fn replaces(&self, columns: [Column; 3], count: usize, group: usize, row: usize) -> Result<bool, Fault>
+    fn replaces(
+        &self,
+        columns: [Column; 3],
+        count: usize,
+        group: usize,
+        row: usize,
+    ) -> Result<bool, Fault>
         requires taken { ⌜ key-refused (O·GroupTable .settings (now self .order)) false (columns-seen columns count) count (row ∷ []) ≡ None ⌝ }
         requires marks { ⌜ group < now self .slots .len ⌝ }
         requires keyed { ⌜ group < length (O·GroupTable .entries (now self .order)) ⌝ }
@@ -49,7 +55,14 @@ impl<S: ValueState, O: RowOrder> FirstLastGroupsAccumulator<S, O> {
     }
 
     // Takes a group's winner of the batch where it replaces what is held.
-    fn take_winner(&mut self, value: &Column, columns: [Column; 3], count: usize, group: usize, row: usize) -> Result<(), Fault>
+    fn take_winner(
+        &mut self,
+        value: &Column,
+        columns: [Column; 3],
+        count: usize,
+        group: usize,
+        row: usize,
+    ) -> Result<(), Fault>
         requires taken { ⌜ key-refused (O·GroupTable .settings (now self .order)) false (columns-seen columns count) count (row ∷ []) ≡ None ⌝ }
         requires fits { ⌜ cell-refused (S·GroupTable .settings (now self .state)) false (column-seen (now value)) row ≡ None ⌝ }
         requires marks { ⌜ group < now self .slots .len ⌝ }
@@ -68,7 +81,14 @@ impl<S: ValueState, O: RowOrder> FirstLastGroupsAccumulator<S, O> {
     }
 
     // Takes one group's winner of the batch, if it has one.
-    fn take_group(&mut self, best: &Extremes, value: &Column, columns: [Column; 3], count: usize, g: usize) -> Result<(), Fault>
+    fn take_group(
+        &mut self,
+        best: &Extremes,
+        value: &Column,
+        columns: [Column; 3],
+        count: usize,
+        g: usize,
+    ) -> Result<(), Fault>
         requires taken { ⌜ ((r : ℕ) → row-of (now best) g ≡ Some r → key-refused (O·GroupTable .settings (now self .order)) false (columns-seen columns count) count (r ∷ []) ≡ None) ⌝ }
         requires fits { ⌜ ((r : ℕ) → row-of (now best) g ≡ Some r → cell-refused (S·GroupTable .settings (now self .state)) false (column-seen (now value)) r ≡ None) ⌝ }
         requires few { ⌜ g < 256 ⌝ }
@@ -86,7 +106,14 @@ impl<S: ValueState, O: RowOrder> FirstLastGroupsAccumulator<S, O> {
     }
 
     // Takes the winners of the groups below `total`.
-    pub(crate) fn take_winners(&mut self, best: &Extremes, value: &Column, columns: [Column; 3], count: usize, total: usize) -> Result<(), Fault>
+    pub(crate) fn take_winners(
+        &mut self,
+        best: &Extremes,
+        value: &Column,
+        columns: [Column; 3],
+        count: usize,
+        total: usize,
+    ) -> Result<(), Fault>
         requires taken { ⌜ ((g r : ℕ) → g < total → row-of (now best) g ≡ Some r → key-refused (O·GroupTable .settings (now self .order)) false (columns-seen columns count) count (r ∷ []) ≡ None) ⌝ }
         requires fits { ⌜ ((g r : ℕ) → g < total → row-of (now best) g ≡ Some r → cell-refused (S·GroupTable .settings (now self .state)) false (column-seen (now value)) r ≡ None) ⌝ }
         requires few { ⌜ total ≤ 256 ⌝ }

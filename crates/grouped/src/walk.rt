@@ -13,11 +13,11 @@ ghost use Rattle.tables.specs.Refusals.{key-refused};
 ghost use Rattle.grouped.specs.Accumulators.{made-of};
 ghost use Rattle.grouped.specs.Seen.{given-seen};
 ghost use Rattle.grouped.specs.Walk.{picks, ahead-row, row-of, step, let-in, Best};
-use column::BoolColumn;
-use column::Column;
 use crate::FirstLastGroupsAccumulator;
 use crate::checks::passes;
 use crate::extremes::Extremes;
+use column::BoolColumn;
+use column::Column;
 use faults::Fault;
 use faults::order_at;
 use std::cmp::Ordering;
@@ -37,7 +37,13 @@ impl<S: ValueState, O: RowOrder> FirstLastGroupsAccumulator<S, O> {
     }
 
     // Whether row `b` beats row `a`.
-    fn beats_row(&self, columns: [Column; 3], count: usize, b: usize, a: usize) -> Result<bool, Fault>
+    fn beats_row(
+        &self,
+        columns: [Column; 3],
+        count: usize,
+        b: usize,
+        a: usize,
+    ) -> Result<bool, Fault>
         requires { ⌜ key-refused (O·GroupTable .settings (now self .order)) false (columns-seen columns count) count (b ∷ (a ∷ [])) ≡ None ⌝ }
         ensures { λ r. ⌜ r ≡ Ok (ahead-row (O·GroupTable .settings (now (self .entry) .order)) (now (self .entry) .«pick_first_in_group») (columns-seen (columns .entry) count) b a) ⌝ }
     {
@@ -46,7 +52,14 @@ impl<S: ValueState, O: RowOrder> FirstLastGroupsAccumulator<S, O> {
     }
 
     // Offers a row to its group.
-    fn offer(&self, best: &mut Extremes, columns: [Column; 3], count: usize, group: usize, row: usize) -> Result<(), Fault>
+    fn offer(
+        &self,
+        best: &mut Extremes,
+        columns: [Column; 3],
+        count: usize,
+        group: usize,
+        row: usize,
+    ) -> Result<(), Fault>
         requires taken { ⌜ ((a : ℕ) → row-of (now best) group ≡ Some a → key-refused (O·GroupTable .settings (now self .order)) false (columns-seen columns count) count (row ∷ (a ∷ [])) ≡ None) ⌝ }
         requires few { ⌜ group < 256 ⌝ }
         ensures fine { λ r. ⌜ r ≡ Ok tt ⌝ }
@@ -70,7 +83,16 @@ impl<S: ValueState, O: RowOrder> FirstLastGroupsAccumulator<S, O> {
     }
 
     // Offers a row to its group if it is admitted.
-    fn visit(&self, best: &mut Extremes, value: &Column, columns: [Column; 3], count: usize, filter: Option<BoolColumn>, group: usize, row: usize) -> Result<(), Fault>
+    fn visit(
+        &self,
+        best: &mut Extremes,
+        value: &Column,
+        columns: [Column; 3],
+        count: usize,
+        filter: Option<BoolColumn>,
+        group: usize,
+        row: usize,
+    ) -> Result<(), Fault>
         requires taken { ⌜ ((a : ℕ) → row-of (now best) group ≡ Some a → key-refused (O·GroupTable .settings (now self .order)) false (columns-seen columns count) count (row ∷ (a ∷ [])) ≡ None) ⌝ }
         requires few { ⌜ group < 256 ⌝ }
         ensures fine { λ r. ⌜ r ≡ Ok tt ⌝ }
@@ -83,7 +105,14 @@ impl<S: ValueState, O: RowOrder> FirstLastGroupsAccumulator<S, O> {
     }
 
     // The earliest admitted row of each group that no other of them beats.
-    pub(crate) fn get_filtered_extreme_of_each_group(&self, value: &Column, columns: [Column; 3], count: usize, indices: &[usize], filter: Option<BoolColumn>) -> Result<Extremes, Fault>
+    pub(crate) fn get_filtered_extreme_of_each_group(
+        &self,
+        value: &Column,
+        columns: [Column; 3],
+        count: usize,
+        indices: &[usize],
+        filter: Option<BoolColumn>,
+    ) -> Result<Extremes, Fault>
         requires taken { ⌜ ((r : ℕ) → r < length (now indices) → key-refused (O·GroupTable .settings (now self .order)) false (columns-seen columns count) count (r ∷ []) ≡ None) ⌝ }
         requires within { ⌜ ((k : ℕ) → k < length (now indices) → getD (now indices) k 0 < 256) ⌝ }
         ensures { λ r. ⌜ Cases r (λ e. (k : ℕ) → Best (made-of (S·GroupTable .settings) (O·GroupTable .settings) (now (self .entry))) (given-seen (now (value .entry)) (columns .entry) count) (now (indices .entry)) (marks-seen (filter .entry)) k (length (now (indices .entry))) (row-of e k)) (λ _. ⊥) ⌝ }

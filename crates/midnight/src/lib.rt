@@ -8,15 +8,20 @@ ghost use Rattle.grouped.specs.Accumulators.{shown, Obeys};
 ghost use Rattle.grouped.specs.Notices.{renumbered};
 ghost use Rattle.grouped.specs.Seen.{to-seen, values-only};
 ghost use Rattle.midnight.specs.Days.{day-seen};
-use grouped::EmitTo;
 use faults::Fault;
+use grouped::EmitTo;
 use grouped::FirstLastGroupsAccumulator;
 use layout::Output;
 use tables::RowOrder;
 use tables::ValueState;
 
 // Writes the values of the first groups, drops these, and renumbers the open group numbers; answers how many left.
-pub fn close_day<S: ValueState, O: RowOrder>(stage: &mut FirstLastGroupsAccumulator<S, O>, leaving: EmitTo, out: &mut Output, open: &mut [u32]) -> Result<u32, Fault>
+pub fn close_day<S: ValueState, O: RowOrder>(
+    stage: &mut FirstLastGroupsAccumulator<S, O>,
+    leaving: EmitTo,
+    out: &mut Output,
+    open: &mut [u32],
+) -> Result<u32, Fault>
     ensures obeys { λ r. ⌜ Obeys (shown (S·GroupTable .entries) (S·GroupTable .settings) (O·GroupTable .entries) (O·GroupTable .settings))
         (now (stage .entry))
         (evaluate (to-seen leaving))

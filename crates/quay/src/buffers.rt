@@ -13,7 +13,11 @@ pub struct Numbers {
 // Writes a column of numbers to the two buffers; false where they are too short.
 fn put(validity: &mut [u8], data: &mut [u8], cells: &[Option<i64>]) -> bool {
     let mut offsets: [u32; 0] = [];
-    let mut out = Output { validity, offsets: &mut offsets, data };
+    let mut out = Output {
+        validity,
+        offsets: &mut offsets,
+        data,
+    };
     out.put_numbers(cells)
 }
 

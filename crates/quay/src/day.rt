@@ -65,10 +65,18 @@ fn reason(log: &[Match], event: usize) -> (i64, usize, usize) {
 impl Day {
     // A day without events.
     pub fn new(rt: &LibcRuntime) -> Day {
-        let by_rank = Sorting { descending: false, nulls_first: false };
+        let by_rank = Sorting {
+            descending: false,
+            nulls_first: false,
+        };
         let order = NumberOrder::new([by_rank, by_rank, by_rank], 1);
         let stage = FirstLastGroupsAccumulator::new(NumberValueState::new(), order, false, false);
-        Day { stage, open: Vec::new(rt.alloc()), held: 0, log: Vec::new(rt.alloc()) }
+        Day {
+            stage,
+            open: Vec::new(rt.alloc()),
+            held: 0,
+            log: Vec::new(rt.alloc()),
+        }
     }
 
     // Opens so many events more, as groups at the end.
@@ -89,7 +97,14 @@ impl Day {
     }
 
     // Hands one batch to the stage.
-    fn update(&mut self, rows: usize, values: &Numbers, ranks: &Numbers, groups: &[usize], filter: Option<BoolColumn>) -> Result<Result<(), Fault>, AnyError> {
+    fn update(
+        &mut self,
+        rows: usize,
+        values: &Numbers,
+        ranks: &Numbers,
+        groups: &[usize],
+        filter: Option<BoolColumn>,
+    ) -> Result<Result<(), Fault>, AnyError> {
         let total = self.held as usize;
         let Ok(values) = column(rows, values) else {
             return Err("the values make no column".into());
@@ -97,7 +112,10 @@ impl Day {
         let Ok(ranks) = column(rows, ranks) else {
             return Err("the ranks make no column".into());
         };
-        Ok(self.stage.update_batch(values, one_key(ranks), 1, groups, filter, total))
+        Ok(
+            self.stage
+                .update_batch(values, one_key(ranks), 1, groups, filter, total),
+        )
     }
 
     // Gives the matches of some rules to the stage as one batch, filtered by the rules' own conditions.
@@ -112,8 +130,15 @@ impl Day {
             let event = m.event;
             let rank = m.rank;
             let group = self.group(event);
-            let note = if m.holds { "" } else { ", but its condition does not hold" };
-            println!(rt, "  {rule} puts a row of rank {rank} into event {event}, group {group}{note}")?;
+            let note = if m.holds {
+                ""
+            } else {
+                ", but its condition does not hold"
+            };
+            println!(
+                rt,
+                "  {rule} puts a row of rank {rank} into event {event}, group {group}{note}"
+            )?;
             values.push(Some(rule.code()))?;
             ranks.push(Some(rank))?;
             groups.push(group as usize)?;
@@ -151,24 +176,45 @@ fn pick(values: &Numbers, rows: usize, row: usize) -> Option<Rule> {
 }
 
 // Emits the first groups of the stage into some buffers, and renumbers the open group numbers.
-fn emit(day: &mut FirstLastGroupsAccumulator<NumberValueState, NumberOrder>, leaving: usize, validity: &mut [u8], data: &mut [u8], open: &mut [u32]) -> Result<u32, Fault> {
+fn emit(
+    day: &mut FirstLastGroupsAccumulator<NumberValueState, NumberOrder>,
+    leaving: usize,
+    validity: &mut [u8],
+    data: &mut [u8],
+    open: &mut [u32],
+) -> Result<u32, Fault> {
     let mut offsets: [u32; 0] = [];
-    let mut out = Output { validity, offsets: &mut offsets, data };
+    let mut out = Output {
+        validity,
+        offsets: &mut offsets,
+        data,
+    };
     close_day(day, EmitTo::First(leaving), &mut out, open)
 }
 
 impl Day {
     // Says which rule an event that leaves was settled by, and why.
-    fn explain(&self, rt: &LibcRuntime, event: usize, picked: Option<Rule>) -> Result<(), AnyError> {
+    fn explain(
+        &self,
+        rt: &LibcRuntime,
+        event: usize,
+        picked: Option<Rule>,
+    ) -> Result<(), AnyError> {
         let Some(rule) = picked else {
             println!(rt, "  event {event} leaves: no rule matched it")?;
             return Ok(());
         };
         let (top, tied, all) = reason(&self.log, event);
         if tied > 1 {
-            println!(rt, "  event {event} leaves: {rule} wins with rank {top}; {tied} of {all} rows tie there, and the earliest stays")?;
+            println!(
+                rt,
+                "  event {event} leaves: {rule} wins with rank {top}; {tied} of {all} rows tie there, and the earliest stays"
+            )?;
         } else {
-            println!(rt, "  event {event} leaves: {rule} wins with rank {top}, the highest of {all}")?;
+            println!(
+                rt,
+                "  event {event} leaves: {rule} wins with rank {top}, the highest of {all}"
+            )?;
         }
         Ok(())
     }
@@ -177,7 +223,13 @@ impl Day {
     pub fn midnight(&mut self, rt: &LibcRuntime, leaving: usize) -> Result<(), AnyError> {
         let before = self.open.clone()?;
         let mut values = Numbers::room(rt.alloc(), leaving)?;
-        let dropped = match emit(&mut self.stage, leaving, &mut values.validity, &mut values.data, &mut self.open) {
+        let dropped = match emit(
+            &mut self.stage,
+            leaving,
+            &mut values.validity,
+            &mut values.data,
+            &mut self.open,
+        ) {
             Ok(dropped) => dropped,
             Err(fault) => return tell(rt, fault),
         };
@@ -211,6 +263,9 @@ fn tell(rt: &LibcRuntime, fault: Fault) -> Result<(), AnyError> {
     let layer = fault.layer();
     let column = fault.column;
     let row = fault.row;
-    println!(rt, "  declined {number} layer={layer} column={column} row={row}")?;
+    println!(
+        rt,
+        "  declined {number} layer={layer} column={column} row={row}"
+    )?;
     Ok(())
 }

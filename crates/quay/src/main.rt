@@ -10,7 +10,12 @@ use std::error::AnyError;
 
 // A rule whose condition holds.
 const fn holds(event: usize, rule: Rule, rank: i64) -> Match {
-    Match { event, rule, rank, holds: true }
+    Match {
+        event,
+        rule,
+        rank,
+        holds: true,
+    }
 }
 
 fn morning(rt: &LibcRuntime, day: &mut Day) -> Result<(), AnyError> {
@@ -29,12 +34,20 @@ fn morning(rt: &LibcRuntime, day: &mut Day) -> Result<(), AnyError> {
 }
 
 fn noon(rt: &LibcRuntime, day: &mut Day) -> Result<(), AnyError> {
-    println!(rt, "Noon: a second batch; one rule's condition does not hold.")?;
+    println!(
+        rt,
+        "Noon: a second batch; one rule's condition does not hold."
+    )?;
     day.batch(
         rt,
         &[
             holds(1, Rule::Weather, 5),
-            Match { event: 2, rule: Rule::Breakdown, rank: 9, holds: false },
+            Match {
+                event: 2,
+                rule: Rule::Breakdown,
+                rank: 9,
+                holds: false,
+            },
             holds(3, Rule::ShiftEnd, 1),
         ],
     )
@@ -43,15 +56,30 @@ fn noon(rt: &LibcRuntime, day: &mut Day) -> Result<(), AnyError> {
 fn evening(rt: &LibcRuntime, day: &mut Day) -> Result<(), AnyError> {
     println!(rt, "Evening: a fifth event opens.")?;
     day.open_events(rt, 1)?;
-    day.batch(rt, &[holds(4, Rule::Breakdown, 3), holds(3, Rule::Weather, 6)])
+    day.batch(
+        rt,
+        &[holds(4, Rule::Breakdown, 3), holds(3, Rule::Weather, 6)],
+    )
 }
 
 fn next_day(rt: &LibcRuntime, day: &mut Day) -> Result<(), AnyError> {
-    println!(rt, "Next morning: the batch goes on with the shifted numbers.")?;
-    day.batch(rt, &[holds(3, Rule::Breakdown, 8), holds(4, Rule::ShiftEnd, 3)])?;
-    println!(rt, "A row for an event that has left is declined, and changes nothing.")?;
+    println!(
+        rt,
+        "Next morning: the batch goes on with the shifted numbers."
+    )?;
+    day.batch(
+        rt,
+        &[holds(3, Rule::Breakdown, 8), holds(4, Rule::ShiftEnd, 3)],
+    )?;
+    println!(
+        rt,
+        "A row for an event that has left is declined, and changes nothing."
+    )?;
     day.batch(rt, &[holds(0, Rule::Weather, 9)])?;
-    println!(rt, "Next midnight: three groups are asked for, and only two are held.")?;
+    println!(
+        rt,
+        "Next midnight: three groups are asked for, and only two are held."
+    )?;
     day.midnight(rt, 3)?;
     println!(rt, "The two that are held leave.")?;
     day.midnight(rt, 2)
@@ -62,7 +90,10 @@ fn run(rt: &LibcRuntime) -> Result<(), AnyError> {
     morning(rt, &mut day)?;
     noon(rt, &mut day)?;
     evening(rt, &mut day)?;
-    println!(rt, "Midnight: events 0, 1 and 2 are finished and leave as a prefix.")?;
+    println!(
+        rt,
+        "Midnight: events 0, 1 and 2 are finished and leave as a prefix."
+    )?;
     day.midnight(rt, 3)?;
     next_day(rt, &mut day)
 }

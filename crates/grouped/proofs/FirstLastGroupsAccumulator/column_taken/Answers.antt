@@ -11,7 +11,7 @@ use Rattle.grouped.proofs.FirstLastGroupsAccumulator.column_taken.Needs as nee
 pub returns-in-Break-order-taken : need.returns-in-Break-order-taken
 returns-in-Break-order-taken g c =
     exits (c .from-residual .result) _ _ (c .from-residual .ensures .1)
-      (sym (row-here (λ r. not (g .O·GroupTable .settings (c .args .self .now .order) .takes (c .args .j) (cell-at (column-seen (c .args .column)) r))) (λ r. fault LONG in-order (order-column (c .args .j)) r) (c .args .rows) (c .loop-row .row) _ (omega arith) (sym (c .in-Break-order-taken .ensures tt))) ∙ c .loop-row .inv)
+    (sym (row-here (λ r. not (g .O·GroupTable .settings (c .args .self .now .order) .takes (c .args .j) (cell-at (column-seen (c .args .column)) r))) (λ r. fault LONG in-order (order-column (c .args .j)) r) (c .args .rows) (c .loop-row .row) _ (omega arith) (sym (c .in-Break-order-taken .ensures tt))) ∙ c .loop-row .inv)
 
 pub loop-row-again : need.loop-row-again
 loop-row-again g c =

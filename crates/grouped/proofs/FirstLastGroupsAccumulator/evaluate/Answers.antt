@@ -17,7 +17,7 @@ use Rattle.grouped.proofs.FirstLastGroupsAccumulator.evaluate.Needs as need
 pub returns-then-n-self : need.returns-then-n-self
 returns-then-n-self g c = record {
   obeys = obeys-from-held _ (g .S·ValueState·met .lawful) (g .O·RowOrder·met .lawful) (c .args .self .now) _ _ _ _ refl
-    (λ ws h. eval-fewer _ (c .args .self .now) _ (c .emitted-n .result) (c .emitted-n .ensures) ws h _ _ (ap (λ f. refused (fault-seen f)) (c .own .ensures)) (c .if-n-self .taken));
+      (λ ws h. eval-fewer _ (c .args .self .now) _ (c .emitted-n .result) (c .emitted-n .ensures) ws h _ _ (ap (λ f. refused (fault-seen f)) (c .own .ensures)) (c .if-n-self .taken));
   unspent = tt;
 }
 
@@ -29,12 +29,12 @@ returns-in-Break-state-at g c =
     let es = g .S·GroupTable .entries (a .state) in
     record {
       obeys = obeys-from-held _ (g .S·ValueState·met .lawful) (g .O·RowOrder·met .lawful) a _ _ _ _ (remade _ _ (ap state-of (c .take .ensures .kept)) refl)
-        (λ ws h.
+          (λ ws h.
           let many : n ≤ length es = omega (arith, cells-long es, values-many _ a (to-seen (c .args .emit-to)) n (c .emitted-n .ensures) ws h, c .if-n-self .left) in
           let short = took-not s es n (parts-seen (c .args .out .now)) _ _ many (c .take .ensures .answer) (c .in-Break-state-at .ensures tt) in
           eval-short _ a _ n (c .emitted-n .ensures) ws h (c .take .last .self) (ap state-of (c .take .ensures .kept)) _ _ _
-            (taking s es (g .S·GroupTable .entries (c .take .last .self)) n (parts-seen (c .args .out .now)) _ many (c .take .ensures .output) (c .take .ensures .after)) (c .if-n-self .left)
-            (short .0) _ (emission-refused _ _ (c .from-residual .ensures .1) ∙ ap refused (short .1)));
+          (taking s es (g .S·GroupTable .entries (c .take .last .self)) n (parts-seen (c .args .out .now)) _ many (c .take .ensures .output) (c .take .ensures .after)) (c .if-n-self .left)
+          (short .0) _ (emission-refused _ _ (c .from-residual .ensures .1) ∙ ap refused (short .1)));
       unspent = none-unspent _ _ (c .from-residual .ensures .1);
     }
 
@@ -44,7 +44,7 @@ returns-in-Break-order-at g c =
     let n = c .emitted-n .result in
     record {
       obeys = obeys-from-held _ (g .S·ValueState·met .lawful) (g .O·RowOrder·met .lawful) a _ _ _ _ (remade _ _ (ap state-of (c .take .ensures .kept)) (c .drop-first .ensures .kept))
-        (λ ws h. absurd (dropped-not _ _ _ _ 9 0 (c .drop-first .ensures .answer) (c .in-Break-order-at .ensures tt)
+          (λ ws h. absurd (dropped-not _ _ _ _ 9 0 (c .drop-first .ensures .answer) (c .in-Break-order-at .ensures tt)
           (drop-fine (length (g .O·GroupTable .entries (a .order))) n (omega (arith, keys-many _ a (to-seen (c .args .emit-to)) n (c .emitted-n .ensures) ws h, c .if-n-self .left)))));
       unspent = none-unspent _ _ (c .from-residual-in-Break-order-at .ensures .1);
     }
@@ -60,13 +60,13 @@ returns g c =
     let es = g .S·GroupTable .entries (a .state) in
     record {
       obeys = obeys-from-held _ (g .S·ValueState·met .lawful) (g .O·RowOrder·met .lawful) a _ _ _ _ (remade _ _ (ap state-of (c .take .ensures .kept)) (c .drop-first .ensures .kept))
-        (λ ws h.
+          (λ ws h.
           let many : n ≤ length es = omega (arith, cells-long es, values-many _ a (to-seen (c .args .emit-to)) n (c .emitted-n .ensures) ws h, c .if-n-self .left) in
           eval-done _ a _ n (c .emitted-n .ensures) ws h (c .take .last .self) (ap state-of (c .take .ensures .kept)) _ _ _
-            (taking s es (g .S·GroupTable .entries (c .take .last .self)) n (parts-seen (c .args .out .now)) _ many (c .take .ensures .output) (c .take .ensures .after)) (c .if-n-self .left)
-            (c .drop-first .last .self) (c .drop-first .ensures .kept)
-            (done-so _ _ _ _ (c .drop-first .ensures .after) (dropped-on _ _ _ _ 9 0 (c .drop-first .ensures .answer) (c .in-Continue-order-at .ensures tt)))
-            (c .drop-first-2 .last .self) (c .drop-first-2 .ensures)
-            (took-on s es n (parts-seen (c .args .out .now)) _ _ many (c .take .ensures .answer) (c .in-Continue-state-at .ensures tt)) _ (ap dropped (c .of .ensures)));
+          (taking s es (g .S·GroupTable .entries (c .take .last .self)) n (parts-seen (c .args .out .now)) _ many (c .take .ensures .output) (c .take .ensures .after)) (c .if-n-self .left)
+          (c .drop-first .last .self) (c .drop-first .ensures .kept)
+          (done-so _ _ _ _ (c .drop-first .ensures .after) (dropped-on _ _ _ _ 9 0 (c .drop-first .ensures .answer) (c .in-Continue-order-at .ensures tt)))
+          (c .drop-first-2 .last .self) (c .drop-first-2 .ensures)
+          (took-on s es n (parts-seen (c .args .out .now)) _ _ many (c .take .ensures .answer) (c .in-Continue-state-at .ensures tt)) _ (ap dropped (c .of .ensures)));
       unspent = omega (arith, c .of .ensures, c .if-n-self .left, a .slots .small);
     }

@@ -17,13 +17,13 @@ column-taken-requires g c κs = record {
 pub returns-in-Break-column-taken : need.returns-in-Break-column-taken
 returns-in-Break-column-taken g c =
     exits (c .from-residual .result) _ _ (c .from-residual .ensures .1)
-      (sym (column-here (long-check (made-of (g .S·GroupTable .settings) (g .O·GroupTable .settings) (c .args .self .now)) (count-up 0 (c .args .rows))) (c .args .orders) (c .args .count) (c .loop-j .j) _ _ (omega arith) (omega arith)
-        (sym (c .in-Break-column-taken .ensures tt))) ∙ c .loop-j .inv)
+    (sym (column-here (long-check (made-of (g .S·GroupTable .settings) (g .O·GroupTable .settings) (c .args .self .now)) (count-up 0 (c .args .rows))) (c .args .orders) (c .args .count) (c .loop-j .j) _ _ (omega arith) (omega arith)
+    (sym (c .in-Break-column-taken .ensures tt))) ∙ c .loop-j .inv)
 
 pub loop-j-again : need.loop-j-again
 loop-j-again g c =
     sym (column-next (long-check (made-of (g .S·GroupTable .settings) (g .O·GroupTable .settings) (c .args .self .now)) (count-up 0 (c .args .rows))) (c .args .orders) (c .args .count) (c .loop-j .j) _ (omega arith) (omega arith)
-        (sym (c .in-Continue-column-taken .ensures tt))) ∙ c .loop-j .inv
+    (sym (c .in-Continue-column-taken .ensures tt))) ∙ c .loop-j .inv
 
 pub returns : need.returns
 returns g c = sym (column-done (long-check (made-of (g .S·GroupTable .settings) (g .O·GroupTable .settings) (c .args .self .now)) (count-up 0 (c .args .rows))) (c .args .orders) (c .args .count) (c .loop-j .j) (omega arith) (omega arith)) ∙ c .loop-j .inv

@@ -14,8 +14,8 @@ unfolding ahead
 returns-in-Continue-verdict g c =
     let o = c .args .self .now .order in
     ap Ok (c .better .ensures ∙ ap (picks (c .args .self .now .«pick_first_in_group»)) (placed-ok _ _ _ _ 9 0 (c .compare-held .ensures)
-        (key-held _ (length (g .O·GroupTable .entries o)) (c .args .group) (columns-seen (c .args .columns) (c .args .count)) (c .args .count) (c .args .row ∷ []) (c .pre .keyed) (c .pre .taken)) (c .in-Continue-verdict .ensures tt))
-      ∙ ap (λ b. wins (g .O·GroupTable .settings o) (c .args .self .now .«pick_first_in_group») b (getD (g .O·GroupTable .entries o) (c .args .group) []) (key-at (columns-seen (c .args .columns) (c .args .count)) (c .args .row))) (sym (sym (c .is-set .ensures) ∙ c .if-is-set .taken)))
+    (key-held _ (length (g .O·GroupTable .entries o)) (c .args .group) (columns-seen (c .args .columns) (c .args .count)) (c .args .count) (c .args .row ∷ []) (c .pre .keyed) (c .pre .taken)) (c .in-Continue-verdict .ensures tt))
+    ∙ ap (λ b. wins (g .O·GroupTable .settings o) (c .args .self .now .«pick_first_in_group») b (getD (g .O·GroupTable .entries o) (c .args .group) []) (key-at (columns-seen (c .args .columns) (c .args .count)) (c .args .row))) (sym (sym (c .is-set .ensures) ∙ c .if-is-set .taken)))
 
 pub returns-else-is-set : need.returns-else-is-set
 returns-else-is-set g c =

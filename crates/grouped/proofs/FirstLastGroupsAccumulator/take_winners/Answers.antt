@@ -43,8 +43,9 @@ loop-g-again g c =
     let t = table (flags-of (s .slots)) (g .S·GroupTable .entries (s .state)) (g .O·GroupTable .entries (s .order)) in
     let made = c .loop-g .inv .0 in
     let more = c .take-group .ensures .made in
-    let u = table (flags-of (c .loop-g .self .slots)) (g .S·GroupTable .entries (c .loop-g .self .state)) (g .O·GroupTable .entries (c .loop-g .self .order)) in
-    (record { state = more .state ∙ made .state; order = more .order ∙ made .order; first = more .first ∙ made .first; nulls = more .nulls ∙ made .nulls },
-     below-more (g .O·GroupTable .settings (s .order)) (s .«pick_first_in_group») (column-seen (c .args .value .now)) (columns-seen (c .args .columns) (c .args .count)) t u _ (row-of (c .args .best .now)) (c .loop-g .g) (c .loop-g .inv .1)
-       (c .take-group .ensures .after
-        ∙ ap₂ (λ x y. take-maybe x y (column-seen (c .args .value .now)) (columns-seen (c .args .columns) (c .args .count)) u (c .loop-g .g) (row-of (c .args .best .now) (c .loop-g .g))) (made .order) (made .first)))
+    let u = table (flags-of (c .loop-g .self .slots)) (g .S·GroupTable .entries (c .loop-g .self .state)) (g .O·GroupTable .entries (c .loop-g .self .order)) in (
+      record { state = more .state ∙ made .state; order = more .order ∙ made .order; first = more .first ∙ made .first; nulls = more .nulls ∙ made .nulls },
+      below-more (g .O·GroupTable .settings (s .order)) (s .«pick_first_in_group») (column-seen (c .args .value .now)) (columns-seen (c .args .columns) (c .args .count)) t u _ (row-of (c .args .best .now)) (c .loop-g .g) (c .loop-g .inv .1)
+          (c .take-group .ensures .after
+          ∙ ap₂ (λ x y. take-maybe x y (column-seen (c .args .value .now)) (columns-seen (c .args .columns) (c .args .count)) u (c .loop-g .g) (row-of (c .args .best .now) (c .loop-g .g))) (made .order) (made .first)),
+    )

@@ -19,9 +19,9 @@ use Rattle.grouped.proofs.FirstLastGroupsAccumulator.update_batch.Needs as nee
 pub returns-in-Break-check-batch : need.returns-in-Break-check-batch
 returns-in-Break-check-batch g c =
     obeys-from-held _ (g .S·ValueState·met .lawful) (g .O·RowOrder·met .lawful) (c .args .self .now) _ _ _ _ refl
-      (declines (g .S·GroupTable .entries) (g .S·GroupTable .settings) (g .O·GroupTable .entries) (g .O·GroupTable .settings) (c .args .self .now)
-        (batch-of (c .args .values) (c .args .orderings) (c .args .count) (c .args .group-indices .now) (c .args .total-num-groups)) (marks-seen (c .args .opt-filter)) no-outputs
-        _ (c .in-Break-check-batch .ensures tt) _ (seen-refused _ _ (exits (c .from-residual .result) _ _ (c .from-residual .ensures .1) refl)))
+    (declines (g .S·GroupTable .entries) (g .S·GroupTable .settings) (g .O·GroupTable .entries) (g .O·GroupTable .settings) (c .args .self .now)
+    (batch-of (c .args .values) (c .args .orderings) (c .args .count) (c .args .group-indices .now) (c .args .total-num-groups)) (marks-seen (c .args .opt-filter)) no-outputs
+    _ (c .in-Break-check-batch .ensures tt) _ (seen-refused _ _ (exits (c .from-residual .result) _ _ (c .from-residual .ensures .1) refl)))
 
 pub grow-requires : need.grow-requires
 grow-requires g c κs =
@@ -35,7 +35,7 @@ returns-in-Break-grow g c =
     let b = batch-of (c .args .values) (c .args .orderings) (c .args .count) (c .args .group-indices .now) (c .args .total-num-groups) in
     let p = passed (g .S·GroupTable .settings (a .state)) (made-of (g .S·GroupTable .settings) (g .O·GroupTable .settings) a) (length (flags-of (a .slots))) b (marks-seen (c .args .opt-filter)) refl (sym (c .in-Continue-check-batch .ensures tt)) in
     obeys-from-held _ (g .S·ValueState·met .lawful) (g .O·RowOrder·met .lawful) a _ _ _ _ (made-same (g .S·GroupTable .entries) (g .S·GroupTable .settings) (g .O·GroupTable .entries) (g .O·GroupTable .settings) a (c .grow .last .self) (c .in-Break-grow .ensures tt .made))
-      (λ ws h. absurd (never-short (g .S·GroupTable .entries) (g .S·GroupTable .settings) (g .O·GroupTable .entries) (g .O·GroupTable .settings) a b (marks-seen (c .args .opt-filter)) no-outputs p (c .in-Break-grow .ensures tt .after) ws h))
+    (λ ws h. absurd (never-short (g .S·GroupTable .entries) (g .S·GroupTable .settings) (g .O·GroupTable .entries) (g .O·GroupTable .settings) a b (marks-seen (c .args .opt-filter)) no-outputs p (c .in-Break-grow .ensures tt .after) ws h))
 
 pub get-filtered-extreme-of-each-group-requires : need.get-filtered-extreme-of-each-group-requires
 get-filtered-extreme-of-each-group-requires g c κs =
@@ -76,8 +76,8 @@ returns g c =
     let eo = g .O·GroupTable .entries in
     let so = g .O·GroupTable .settings in
     obeys-from-held _ (g .S·ValueState·met .lawful) (g .O·RowOrder·met .lawful) a _ _ _ _
-      (made-same es ss eo so a (c .take-winners .last .self) (made-on es ss eo so a (c .grow .last .self) (c .take-winners .last .self) (c .in-Continue-grow .ensures tt .made) (c .take-winners .ensures .made)))
-      (finishes es ss eo so a (c .grow .last .self) (c .take-winners .last .self) (batch-of (c .args .values) (c .args .orderings) (c .args .count) (c .args .group-indices .now) (c .args .total-num-groups)) (marks-seen (c .args .opt-filter)) no-outputs
-        (record { of-state = g .S·ValueState·met .lawful (a .state); of-order = g .O·RowOrder·met .lawful (a .order) }) (row-of (c .in-Continue-best .best))
-        (sym (c .in-Continue-check-batch .ensures tt)) (c .in-Continue-grow .ensures tt .after) (c .in-Continue-grow .ensures tt .made) (c .take-winners .ensures .made) (c .in-Continue-best .ensures tt) (c .take-winners .ensures .after)
-        _ (ap batch-seen (c .take-winners .ensures .fine)))
+    (made-same es ss eo so a (c .take-winners .last .self) (made-on es ss eo so a (c .grow .last .self) (c .take-winners .last .self) (c .in-Continue-grow .ensures tt .made) (c .take-winners .ensures .made)))
+    (finishes es ss eo so a (c .grow .last .self) (c .take-winners .last .self) (batch-of (c .args .values) (c .args .orderings) (c .args .count) (c .args .group-indices .now) (c .args .total-num-groups)) (marks-seen (c .args .opt-filter)) no-outputs
+    (record { of-state = g .S·ValueState·met .lawful (a .state); of-order = g .O·RowOrder·met .lawful (a .order) }) (row-of (c .in-Continue-best .best))
+    (sym (c .in-Continue-check-batch .ensures tt)) (c .in-Continue-grow .ensures tt .after) (c .in-Continue-grow .ensures tt .made) (c .take-winners .ensures .made) (c .in-Continue-best .ensures tt) (c .take-winners .ensures .after)
+    _ (ap batch-seen (c .take-winners .ensures .fine)))

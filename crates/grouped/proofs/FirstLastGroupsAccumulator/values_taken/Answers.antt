@@ -11,7 +11,7 @@ use Rattle.grouped.proofs.FirstLastGroupsAccumulator.values_taken.Needs as nee
 pub returns-in-Break-value-taken : need.returns-in-Break-value-taken
 returns-in-Break-value-taken g c =
     exits (c .from-residual .result) _ _ (c .from-residual .ensures .1)
-      (sym (row-here (λ r. not (state-of (g .S·GroupTable .settings (c .args .self .now .state)) .takes (cell-at (column-seen (c .args .value)) r))) (λ r. fault LONG in-state 0 r) (c .args .value .rows) (c .loop-row .row) _ (omega arith) (sym (c .in-Break-value-taken .ensures tt))) ∙ c .loop-row .inv)
+    (sym (row-here (λ r. not (state-of (g .S·GroupTable .settings (c .args .self .now .state)) .takes (cell-at (column-seen (c .args .value)) r))) (λ r. fault LONG in-state 0 r) (c .args .value .rows) (c .loop-row .row) _ (omega arith) (sym (c .in-Break-value-taken .ensures tt))) ∙ c .loop-row .inv)
 
 pub loop-row-again : need.loop-row-again
 loop-row-again g c =

@@ -12,4 +12,4 @@ pub returns : need.returns
 returns c =
     let t = c .args .self .now in
     front-grown (t .set) (c .clear .last .flags) false (t .len) (c .args .total) (c .pre .0) (let k = c .clear .kept .flags in omega arith) (t .few) (c .clear .ensures .below) (c .clear .ensures .here)
-      ∙ ap (λ k. take (t .len) (t .set) ++ replicate (c .args .total - k) false) (sym (length-take-le (t .len) (t .set) (t .few)))
+    ∙ ap (λ k. take (t .len) (t .set) ++ replicate (c .args .total - k) false) (sym (length-take-le (t .len) (t .set) (t .few)))
