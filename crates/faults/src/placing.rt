@@ -48,16 +48,16 @@ fn located<T, F: Copy>(r: Result<T, F>, column: u8, row: usize) -> Result<T, At<
 pub fn state_at<T>(r: Result<T, StateFault>, column: u8, row: usize) -> Result<T, Fault>
     ensures { λ s. ⌜ s ≡ state-placed r column row ⌝ }
 {
-    let x = located(r, column, row)?;
-    Ok(x)
+    let taken = located(r, column, row)?;
+    Ok(taken)
 }
 
 // A row order's refusal, whole inside the accumulator's.
 pub fn order_at<T>(r: Result<T, OrderFault>, column: u8, row: usize) -> Result<T, Fault>
     ensures { λ s. ⌜ s ≡ order-placed r column row ⌝ }
 {
-    let x = located(r, column, row)?;
-    Ok(x)
+    let compared = located(r, column, row)?;
+    Ok(compared)
 }
 
 // A refusal of the accumulator's own.

@@ -37,9 +37,10 @@ impl ShiftNotice {
         ShiftNotice { dropped }
     }
 
-    // Renumbers the list of open group numbers, which spends the notice: a second time is refused.
-    pub fn renumber(&mut self, open: &mut [u32])
+    // Renumbers the list of open group numbers and answers how many groups the emission dropped. This spends the notice: a second time is refused.
+    pub fn renumber(&mut self, open: &mut [u32]) -> u32
         requires { ⌜ now self .dropped ≤ 256 ⌝ }
+        ensures answer { λ r. ⌜ r ≡ now (self .entry) .dropped ⌝ }
         ensures spends { λ _. ⌜ now (self .exit) .dropped ≡ spent ⌝ }
         ensures after { λ _. ⌜ now («open» .exit) ≡ map (renumbered (now (self .entry) .dropped)) (now («open» .entry)) ⌝ }
     {
@@ -48,12 +49,6 @@ impl ShiftNotice {
             *group = renumber_one(*group, dropped);
         }
         self.dropped = 4294967295;
-    }
-
-    // How many groups the emission dropped.
-    pub fn dropped(&self) -> u32
-        ensures { λ r. ⌜ r ≡ now (self .entry) .dropped ⌝ }
-    {
-        self.dropped
+        dropped
     }
 }

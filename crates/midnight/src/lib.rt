@@ -31,7 +31,5 @@ pub fn close_day<S: ValueState, O: RowOrder>(
     ensures renumbers { λ r. ⌜ Cases r (λ n. now («open» .exit) ≡ map (renumbered n) (now («open» .entry))) (λ _. now («open» .exit) ≡ now («open» .entry)) ⌝ }
 {
     let mut notice = stage.evaluate(leaving, out)?;
-    let dropped = notice.dropped();
-    notice.renumber(open);
-    Ok(dropped)
+    Ok(notice.renumber(open))
 }

@@ -21,6 +21,7 @@ returns c =
     let xs = c .args .«open» .now in
     let i = c .loop-group .group-index in
     record {
+      answer = refl;
       spends = refl;
       after = c .loop-group .inv ∙ ap₂ (λ a b. map (renumbered (c .args .self .now .dropped)) a ++ b) (take-all i xs (omega arith)) (drop-all i xs (omega arith)) ∙ append-nil _;
     }
