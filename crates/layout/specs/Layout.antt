@@ -8,6 +8,7 @@
 --   over         something written to the front of a buffer, the rest untouched
 --   written      all parts written to the fronts of the buffers
 --   fits         each buffer has room for its part: the space that the parts need
+--   written-all, fits-all   the same of columns, each against the buffers in its place; a column without buffers does not fit
 use mathlib.Core.List.{List, [], _∷_, _++_, map}
 use mathlib.Core.Bool.{Bool, true, false, cond, not, _&&_}
 use Prim.Native.Nat.{ℕ, zero, suc, _+_, _*_, _/_, _%_}
@@ -122,3 +123,13 @@ fits new before = room (new .validity) (before .validity) && (room (new .offsets
 
 abbrev pub fits-flags : Flag-parts → Flag-parts → Bool
 fits-flags new before = room (new .validity) (before .validity) && room (new .bits) (before .bits)
+
+abbrev pub written-all : List Parts → List Parts → List Parts
+written-all [] os = os
+written-all (p ∷ ps) [] = []
+written-all (p ∷ ps) (o ∷ os) = written p o ∷ written-all ps os
+
+abbrev pub fits-all : List Parts → List Parts → Bool
+fits-all [] os = true
+fits-all (p ∷ ps) [] = false
+fits-all (p ∷ ps) (o ∷ os) = fits p o && fits-all ps os

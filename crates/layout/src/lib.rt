@@ -13,6 +13,14 @@ pub struct Output<'a> {
     pub data: &'a mut [u8],
 }
 
+// The caller's buffers for up to three key columns.
+#[derive(Drop)]
+pub struct KeyOutputs<'a> {
+    pub first: Output<'a>,
+    pub second: Output<'a>,
+    pub third: Output<'a>,
+}
+
 // How much of each buffer a column needs.
 #[derive(Clone, Copy, PartialEq, Eq, Debug)]
 pub struct Space {

@@ -2,4 +2,5 @@ pub mod Declining
 pub mod Fronts
 pub mod Ordering
 pub mod Passing
+pub mod Taking
 pub mod Walking

@@ -7,6 +7,8 @@
 --   key-at                the key of a row: its cell in each order column
 --   verdict               how one key stands to another
 --   writing, measuring-key, writing-key   the checks of writing out the first n cells, or the first n cells of one key column
+--   keys-laid             the first n keys as they are written out, a column after another
+--   taking-keys           the checks of writing out the first n keys
 use mathlib.Core.List.{List, [], _∷_, _++_, map}
 use mathlib.Core.Bool.{Bool, true, false, cond, not, _&&_, _||_}
 use Prim.Native.Nat.{ℕ, suc, _-_}
@@ -19,7 +21,7 @@ use Rattle.std.specs.declared.cmp.Ordering.the-variants.{Less, Equal, Greater}
 use Rattle.column.specs.Checks.{refuse, first-of}
 use Rattle.column.specs.Cells.{Kind, numbers, Cell, null, same-kind}
 use Rattle.column.specs.Columns.{Column, cell-at}
-use Rattle.layout.specs.Layout.{Parts, laid-out, fits}
+use Rattle.layout.specs.Layout.{Parts, laid-out, fits, fits-all}
 use Rattle.tables.specs.declared.TableFault.{TableFault}
 use Rattle.tables.specs.declared.TableFault.the-variants as table
 use Rattle.tables.specs.declared.StateFault.{StateFault}
@@ -125,3 +127,16 @@ measuring-key s es j n = first-of (no-column (s .kinds) j ∷ mapped order.Table
 
 unfoldable pub writing-key : Settings → List (List Cell) → ℕ → ℕ → Parts → Option OrderFault
 writing-key s es j n before = first-of (measuring-key s es j n ∷ refuse (not (fits (key-laid s es j n) before)) order.Space ∷ [])
+
+-- the first n cells of every key column as they are written out, by the kinds of those from number j on
+abbrev pub columns-laid : List (List Cell) → ℕ → ℕ → List Kind → List Parts
+columns-laid es n j [] = []
+columns-laid es n j (k ∷ ks) = laid-out k (take n (column-cells j es)) ∷ columns-laid es n (suc j) ks
+
+abbrev pub keys-laid : Settings → List (List Cell) → ℕ → List Parts
+keys-laid s es n = columns-laid es n 0 (s .kinds)
+
+unfoldable pub taking-keys : Settings → List (List Cell) → ℕ → List Parts → Option OrderFault
+taking-keys s es n before =
+    first-of (mapped order.Table (dropping (length es) n)
+    ∷ refuse (not (fits-all (keys-laid s es n) before)) order.Space ∷ [])

@@ -3,16 +3,18 @@ ghost use mathlib.Core.Path.{_≡_};
 ghost use mathlib.Core.List.{[], _∷_};
 ghost use mathlib.Core.Bool.{false};
 ghost use lib.Dec.{leb};
-ghost use lib.ListN.{length, getD, set};
+ghost use lib.ListN.{length, getD, set, drop};
 ghost use Rattle.column.specs.Checks.{outcome, unless-refused};
 ghost use Rattle.column.specs.Seen.{column-seen, columns-seen};
-ghost use Rattle.layout.specs.Layout.{written};
-ghost use Rattle.layout.specs.Written.{parts-seen, space-of};
+ghost use Rattle.layout.specs.Layout.{written, written-all};
+ghost use Rattle.layout.specs.Written.{parts-seen, keys-seen, space-of};
 ghost use Rattle.tables.specs.Meaning.{Order-laws};
-ghost use Rattle.tables.specs.Refusals.{named-unread, named-refused, key-refused, key-at, verdict, key-laid, measuring-key, writing-key};
+ghost use Rattle.tables.specs.Refusals.{named-unread, named-refused, key-refused, key-at, verdict, key-laid, measuring-key, writing-key, keys-laid, taking-keys};
 use crate::GroupTable;
 use crate::OrderFault;
+use crate::TableFault;
 use column::Column;
+use layout::KeyOutputs;
 use layout::Output;
 use layout::Space;
 use std::cmp::Ordering;
@@ -71,4 +73,59 @@ pub trait RowOrder: GroupTable<Fault = OrderFault> {
     fn write_key(&self, named: usize, n: usize, out: &mut Output) -> Result<(), OrderFault>
         ensures answer { λ r. ⌜ r ≡ outcome (writing-key (Self·GroupTable .settings (now (self .entry))) (Self·GroupTable .entries (now (self .entry))) named n (parts-seen (now (out .entry)))) tt ⌝ }
         ensures after { λ _. ⌜ parts-seen (now (out .exit)) ≡ unless-refused (writing-key (Self·GroupTable .settings (now (self .entry))) (Self·GroupTable .entries (now (self .entry))) named n (parts-seen (now (out .entry)))) (written (key-laid (Self·GroupTable .settings (now (self .entry))) (Self·GroupTable .entries (now (self .entry))) named n) (parts-seen (now (out .entry)))) (parts-seen (now (out .entry))) ⌝ };
+
+    // Whether the outputs have room for the first `n` keys, a column to an output: FEWER, SPACE.
+    fn keys_fit(&self, n: usize, out: &KeyOutputs) -> Result<(), OrderFault>
+        ensures { λ r. ⌜ r ≡ outcome (taking-keys (Self·GroupTable .settings (now (self .entry))) (Self·GroupTable .entries (now (self .entry))) n (keys-seen (now (out .entry)))) tt ⌝ }
+    {
+        if n > self.groups() {
+            return Err(OrderFault::Table(TableFault::Fewer));
+        }
+        let columns = self.columns();
+        if columns > 3 {
+            return Err(OrderFault::Space);
+        }
+        if columns > 0 && !self.key_space(0, n)?.fits(&out.first) {
+            return Err(OrderFault::Space);
+        }
+        if columns > 1 && !self.key_space(1, n)?.fits(&out.second) {
+            return Err(OrderFault::Space);
+        }
+        if columns > 2 && !self.key_space(2, n)?.fits(&out.third) {
+            return Err(OrderFault::Space);
+        }
+        Ok(())
+    }
+
+    // Writes the first `n` keys, a column to an output: FEWER, SPACE.
+    fn write_keys(&self, n: usize, out: &mut KeyOutputs) -> Result<(), OrderFault>
+        ensures answer { λ r. ⌜ r ≡ outcome (taking-keys (Self·GroupTable .settings (now (self .entry))) (Self·GroupTable .entries (now (self .entry))) n (keys-seen (now (out .entry)))) tt ⌝ }
+        ensures after { λ _. ⌜ keys-seen (now (out .exit)) ≡ unless-refused (taking-keys (Self·GroupTable .settings (now (self .entry))) (Self·GroupTable .entries (now (self .entry))) n (keys-seen (now (out .entry)))) (written-all (keys-laid (Self·GroupTable .settings (now (self .entry))) (Self·GroupTable .entries (now (self .entry))) n) (keys-seen (now (out .entry)))) (keys-seen (now (out .entry))) ⌝ }
+    {
+        self.keys_fit(n, out)?;
+        let columns = self.columns();
+        if columns == 0 {
+            return Ok(());
+        }
+        self.write_key(0, n, &mut out.first)?;
+        if columns == 1 {
+            return Ok(());
+        }
+        self.write_key(1, n, &mut out.second)?;
+        if columns == 2 {
+            return Ok(());
+        }
+        self.write_key(2, n, &mut out.third)
+    }
+
+    // Writes the first `n` keys, a column to an output, and drops them: FEWER, SPACE.
+    fn take_keys(&mut self, n: usize, out: &mut KeyOutputs) -> Result<(), OrderFault>
+        ensures answer { λ r. ⌜ r ≡ outcome (taking-keys (Self·GroupTable .settings (now (self .entry))) (Self·GroupTable .entries (now (self .entry))) n (keys-seen (now (out .entry)))) tt ⌝ }
+        ensures output { λ _. ⌜ keys-seen (now (out .exit)) ≡ unless-refused (taking-keys (Self·GroupTable .settings (now (self .entry))) (Self·GroupTable .entries (now (self .entry))) n (keys-seen (now (out .entry)))) (written-all (keys-laid (Self·GroupTable .settings (now (self .entry))) (Self·GroupTable .entries (now (self .entry))) n) (keys-seen (now (out .entry)))) (keys-seen (now (out .entry))) ⌝ }
+        ensures after { λ _. ⌜ Self·GroupTable .entries (now (self .exit)) ≡ unless-refused (taking-keys (Self·GroupTable .settings (now (self .entry))) (Self·GroupTable .entries (now (self .entry))) n (keys-seen (now (out .entry)))) (drop n (Self·GroupTable .entries (now (self .entry)))) (Self·GroupTable .entries (now (self .entry))) ⌝ }
+        ensures kept { λ _. ⌜ Self·GroupTable .settings (now (self .exit)) ≡ Self·GroupTable .settings (now (self .entry)) ⌝ }
+    {
+        self.write_keys(n, out)?;
+        self.drop_first(n)
+    }
 }
