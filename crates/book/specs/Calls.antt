@@ -14,11 +14,11 @@ use Rattle.std.specs.declared.option.Option.the-variants.{Some, None}
 use Rattle.column.specs.Checks.{unless-refused}
 use Rattle.column.specs.Faults.{Fault}
 use Rattle.column.specs.Columns.{Flags}
-use Rattle.layout.specs.Layout.{written, written-flags}
+use Rattle.layout.specs.Layout.{written, written-all, written-flags}
 use Rattle.book.specs.Winners.{Row, Making, winners}
 use Rattle.book.specs.Batches.{Book, Given, Batch, entries, grown, entered}
 use Rattle.book.specs.Declines.{batch-declined}
-use Rattle.book.specs.Emission.{To, Outputs, emits, value-parts, key-parts, set-parts, keys-written, evaluate-declined, state-declined, converted-flags, convert-declined}
+use Rattle.book.specs.Emission.{To, Outputs, emits, value-parts, key-parts, set-parts, evaluate-declined, state-declined, converted-flags, convert-declined}
 
 pub data Call : Type 0 where
   update : Batch → Option Flags → Call
@@ -63,7 +63,7 @@ answered m ws (state to) o = record {
   result = dropped (emits to (length ws));
   outputs = record {
     values = written (value-parts m (leaving to ws)) (o .values);
-    keys = keys-written (key-parts 0 (m .order .kinds) (leaving to ws)) (o .keys);
+    keys = written-all (key-parts 0 (m .order .kinds) (leaving to ws)) (o .keys);
     flags = written-flags (set-parts (leaving to ws)) (o .flags);
   };
 }

@@ -17,7 +17,7 @@ use Rattle.column.specs.Checks.{refuse, first-of}
 use Rattle.column.specs.Faults.{Fault, fault, SPACE, FEWER, EMPTY, in-state, in-order, in-accumulator}
 use Rattle.column.specs.Cells.{Kind, Cell, null}
 use Rattle.column.specs.Columns.{Flags, flag-at}
-use Rattle.layout.specs.Layout.{Parts, Flag-parts, laid-out, laid-flags, written, fits, fits-flags}
+use Rattle.layout.specs.Layout.{Parts, Flag-parts, laid-out, laid-flags, fits, fits-flags}
 use Rattle.book.specs.Winners.{Row, Making}
 use Rattle.book.specs.Batches.{Given, every-row}
 use Rattle.book.specs.Declines.{own, order-column, cols, rows}
@@ -57,11 +57,6 @@ key-parts j (k ∷ ks) ws = laid-out k (map (key-shown j) ws) ∷ key-parts (suc
 
 abbrev pub set-parts : List (Option Row) → Flag-parts
 set-parts ws = laid-flags (map set-shown ws)
-
-abbrev pub keys-written : List Parts → List Parts → List Parts
-keys-written [] outs = outs
-keys-written (p ∷ ps) [] = []
-keys-written (p ∷ ps) (o ∷ outs) = written p o ∷ keys-written ps outs
 
 -- Checks
 
