@@ -6,7 +6,7 @@ use lib.ListN.{length, getD, set, drop, replicate, length-map, List·getD-map}
 use Rattle.std.proofs.shelf.Lists.{map-append, map-set, drop-map}
 use Rattle.std.specs.declared.option.Option.{Option}
 use Rattle.std.specs.declared.option.Option.the-variants.{Some, None}
-use Rattle.book.proofs.Winning.{challenge, run, winner-append}
+use Rattle.book.proofs.Winning.{challenge, winner-append}
 use Rattle.book.specs.Batches.{Book, Batch, grown, entered, entries}
 use Rattle.book.specs.Calls.{Call, update, merge, convert, evaluate, state, Answer, declined, answered, answer-unless, answer, taken-in, after, book-after, answers}
 use Rattle.book.specs.Emission.{Outputs, emits}

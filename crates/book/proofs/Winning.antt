@@ -2,14 +2,13 @@
 use mathlib.Core.Path.{_≡_, refl, sym, ap, _∙_, fun-ext}
 use mathlib.Core.List.{List, [], _∷_, _++_, append-assoc, append-nil}
 use mathlib.Core.Bool.{Bool, true, false, not, cond, _||_, _&&_}
-use mathlib.Core.Logic.{_⊎_, inl, inr}
 use native.Mathlib.Omega.{arith}
 use Rattle.std.proofs.shelf.Elements.{kept-by-append, kept-by-passes, all-weaker}
 use Rattle.std.proofs.shelf.Tests.{not-true, or-parts, cond-true, cond-false}
 use Rattle.std.specs.shelf.Lists.{kept-by, All}
 use Rattle.std.specs.declared.option.Option.{Option}
 use Rattle.std.specs.declared.option.Option.the-variants.{Some, None}
-use Rattle.book.specs.Winners.{Row, Making, Lawful, beats, unbeaten, top-rows, earliest, winner, winners}
+use Rattle.book.specs.Winners.{Row, Making, Lawful, beats, unbeaten, top-rows, earliest, winner}
 use Rattle.tables.specs.Refusals.{some-of}
 
 -- a test over a list, and what a filter keeps first

@@ -7,7 +7,7 @@
 --   shape-fits   1,024 rows at most; no validity bytes, or as many as needed; fitting offsets and bytes
 --   column-refused, flags-refused   the checks of the making, in their order
 use mathlib.Core.List.{List, [], _∷_}
-use mathlib.Core.Bool.{Bool, true, false, not, cond, _&&_, _||_}
+use mathlib.Core.Bool.{Bool, true, not, cond, _&&_, _||_}
 use Prim.Native.Nat.{ℕ, zero, suc, _+_, _*_, _/_}
 use lib.Dec.{eqb, leb, ltb}
 use lib.ListN.{length, getD}

@@ -1,6 +1,7 @@
 // Columns: plain views over the caller's buffers, whose cells are defined for any parts.
 mod bits;
 mod making;
+mod numbering;
 mod reading;
 
 // What the cells of a column are.

@@ -1,8 +1,8 @@
 -- What `update_batch` does to what is held.
 use mathlib.Core.Path.{_≡_, refl, sym, ap, ap₂, _∙_, subst}
 use mathlib.Core.List.{List, [], _∷_, _++_, map}
-use mathlib.Core.Bool.{Bool, true, false, not, cond}
-use Prim.Native.Nat.{ℕ, _+_, _-_, _<_, _≤_}
+use mathlib.Core.Bool.{Bool, true, false}
+use Prim.Native.Nat.{ℕ, _-_, _≤_}
 use native.Mathlib.Omega.{arith}
 use lib.Dec.{ltb}
 use lib.ListN.{length, getD, replicate, length-map}
@@ -17,9 +17,9 @@ use Rattle.column.specs.Cells.{Cell, Kind, null}
 use Rattle.column.specs.Checks.{refuse, first-of}
 use Rattle.column.specs.Columns.{Flags}
 use Rattle.column.specs.Faults.{Fault}
-use Rattle.tables.specs.Meaning.{Settings, state-of, first-cells}
-use Rattle.tables.specs.Refusals.{growing, grown-entries}
-use Rattle.book.specs.Winners.{Row, Lawful}
+use Rattle.tables.specs.Meaning.{Settings, state-of}
+use Rattle.tables.specs.Refusals.{growing}
+use Rattle.book.specs.Winners.{Lawful}
 use Rattle.book.specs.Batches.{Batch, entries, order-columns}
 use Rattle.book.specs.Declines.{batch-declined}
 use Rattle.book.specs.Emission.{Outputs, value-shown}
@@ -27,7 +27,7 @@ use Rattle.book.specs.Calls.{update, Result, done, refused}
 use Rattle.book.proofs.Following.{Held, reply, held-after, met}
 use Rattle.faults.specs.declared.Fault as coded
 use Rattle.grouped.specs.declared.FirstLastGroupsAccumulator.{FirstLastGroupsAccumulator}
-use Rattle.grouped.specs.Accumulators.{shown, made-of, flags-of, is-set, key-cells, Shows}
+use Rattle.grouped.specs.Accumulators.{shown, made-of, flags-of, key-cells, Shows}
 use Rattle.faults.specs.Reported.{declined-seen}
 use Rattle.grouped.specs.Seen.{batch-seen}
 use Rattle.grouped.specs.Walk.{Table, table, take-below, Same-made, Best, Grown, Grows-not}

@@ -1,18 +1,18 @@
 -- What a batch does to what is held.
 use mathlib.Core.Path.{_≡_, refl, sym, ap, ap₂, _∙_, subst}
 use mathlib.Core.List.{List, [], _∷_, _++_, map}
-use mathlib.Core.Bool.{Bool, true, false, not, cond, _&&_}
+use mathlib.Core.Bool.{Bool, true, false, cond, _&&_}
 use mathlib.Core.Logic.{⊎-elim}
-use Prim.Native.Nat.{ℕ, zero, suc, _+_, _-_, _<_, _≤_}
+use Prim.Native.Nat.{ℕ, zero, suc, _-_, _<_, _≤_}
 use native.Mathlib.Omega.{arith}
-use lib.Dec.{eqb, leb, ltb}
+use lib.Dec.{eqb}
 use lib.ListN.{length, getD, set, replicate, length-set, length-map, List·getD-map}
 use Rattle.std.specs.shelf.Lists.{kept-by}
-use Rattle.std.proofs.shelf.Lists.{map-append, map-set, set-getD, getD-default, getD-set-same, getD-set-other, ext-getD, length-append, length-replicate}
+use Rattle.std.proofs.shelf.Lists.{map-append, map-set, set-getD, getD-default, getD-set-same, getD-set-other, ext-getD}
 use Rattle.std.proofs.shelf.Tests.{cases-eq}
 use Rattle.std.specs.declared.option.Option.{Option}
 use Rattle.std.specs.declared.option.Option.the-variants.{Some, None}
-use Rattle.column.specs.Cells.{Cell, Kind, null}
+use Rattle.column.specs.Cells.{Kind, null}
 use Rattle.column.specs.Columns.{Flags, cell-at}
 use Rattle.tables.specs.Meaning.{first-cells}
 use Rattle.tables.specs.Refusals.{key-at, grown-entries}

@@ -1,31 +1,29 @@
 -- The walk through a batch finds the winner of each group.
-use mathlib.Core.Path.{_≡_, refl, sym, ap, ap₂, _∙_}
+use mathlib.Core.Path.{_≡_, refl, sym, ap, _∙_}
 use mathlib.Core.List.{List, [], _∷_, _++_, map}
 use mathlib.Core.Bool.{Bool, true, false, not, cond, _&&_, _||_, false≢true}
-use Prim.Native.Nat.{ℕ, zero, suc, _+_, _-_, _<_, _≤_}
+use Prim.Native.Nat.{ℕ, zero, suc, _+_, _<_}
 use native.Mathlib.Numerals.{add-one}
 use native.Mathlib.Omega.{arith}
-use lib.Dec.{eqb, leb, ltb}
-use lib.ListN.{length, getD, set, replicate}
+use lib.Dec.{eqb}
+use lib.ListN.{getD, replicate}
 use Rattle.std.specs.shelf.Lists.{kept-by}
 use Rattle.std.proofs.shelf.Elements.{kept-by-append}
 use Rattle.std.proofs.shelf.Lists.{map-append}
-use Rattle.std.proofs.shelf.Tests.{or-parts}
 use Rattle.std.specs.declared.option.Option.{Option}
 use Rattle.std.specs.declared.option.Option.the-variants.{Some, None}
 use Rattle.std.specs.declared.result.Result.{Result}
-use Rattle.std.specs.declared.result.Result.the-variants.{Ok, Err}
+use Rattle.std.specs.declared.result.Result.the-variants.{Ok}
 use Rattle.std.specs.declared.cmp.Ordering.the-variants.{Less, Equal, Greater}
 use Rattle.tables.specs.declared.OrderFault.{OrderFault}
 use Rattle.tables.specs.declared.OrderFault.the-variants as order
-use Rattle.column.specs.Cells.{Cell}
 use Rattle.column.specs.Checks.{refuse, first-of, outcome}
-use Rattle.column.specs.Columns.{Column, Flags, count-up, cell-at}
+use Rattle.column.specs.Columns.{Column, Flags, count-up}
 use Rattle.tables.specs.Meaning.{Settings, Order-laws}
-use Rattle.tables.specs.Refusals.{cols-fit, some-column, other-kind, past-column, untaken, key-unfit, key-refused, key-at, verdict}
+use Rattle.tables.specs.Refusals.{cols-fit, some-column, other-kind, past-column, untaken, key-unfit, key-refused, verdict}
 use Rattle.book.specs.Winners.{Row, Making, Lawful, beats, winner, top-rows}
 use Rattle.book.specs.Batches.{Given, row-at, admitted, order-columns}
-use Rattle.book.proofs.Winning.{challenge, run, winner-append}
+use Rattle.book.proofs.Winning.{challenge, winner-append}
 use Rattle.faults.specs.Reported.{order-placed}
 use Rattle.grouped.specs.Walk.{picks, ahead, ahead-row, group-rows, found, step, let-in, Best}
 

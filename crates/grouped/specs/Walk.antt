@@ -9,6 +9,7 @@
 --   take-row    one group takes a row of a batch where that replaces what it holds; no other group changes
 --   take-below  the groups below a number take their marked rows
 --   Same-made   nothing of how an accumulator was made has changed
+--   in-turn     the answer of two steps, the second only where the first is not declined
 --   Grown       the tables before and after growing to a total; Grows-not one of them declines
 use mathlib.Core.Path.{_≡_}
 use mathlib.Core.List.{List, [], _∷_, _++_, map}
@@ -19,6 +20,8 @@ use lib.ListN.{length, getD, set, replicate}
 use Rattle.std.specs.shelf.Lists.{kept-by}
 use Rattle.std.specs.declared.option.Option.{Option}
 use Rattle.std.specs.declared.option.Option.the-variants.{Some, None}
+use Rattle.std.specs.declared.result.Result.{Result}
+use Rattle.std.specs.declared.result.Result.the-variants.{Ok, Err}
 use Rattle.std.specs.declared.cmp.Ordering.{Ordering}
 use Rattle.std.specs.declared.cmp.Ordering.the-variants.{Less, Equal, Greater}
 use Rattle.column.specs.Cells.{Cell, Kind, is-null}
@@ -101,6 +104,10 @@ pub record Same-made (s s′ o o′ : Settings) (l l′ i i′ : Bool) : Type 0 
 pub record Best (m : Making) (g : Given) (ix : List ℕ) (marks : Option Flags) (k n : ℕ) (o : Option ℕ) : Type 0 where
   pub wins-so : found g o ≡ winner m (group-rows m g ix marks k n)
   pub among : (r : ℕ) → o ≡ Some r → r < n
+
+abbrev pub in-turn : {X E : Type 0} → Result X E → Result X E → Result X E
+in-turn (Ok x) r = r
+in-turn (Err e) r = Err e
 
 pub record Grown (sk ok : List Kind) (total : ℕ) (t u : Table) : Type 0 where
   pub state-grows : growing (length (t .cells)) total ≡ None

@@ -4,13 +4,16 @@ ghost use mathlib.Core.List.{[], _∷_};
 ghost use mathlib.Core.Bool.{false};
 ghost use Prim.Native.Nat.{ℕ, _<_, _≤_};
 ghost use lib.ListN.{length, getD};
+ghost use Rattle.std.specs.Options.{mapped};
 ghost use Rattle.std.specs.Results.{Cases};
 ghost use Rattle.std.specs.declared.option.Option.the-variants.{Some, None};
 ghost use Rattle.std.specs.declared.result.Result.the-variants.{Ok};
+ghost use Rattle.column.specs.Checks.{outcome};
 ghost use Rattle.column.specs.Seen.{column-seen, columns-seen};
-ghost use Rattle.tables.specs.Refusals.{key-refused, cell-refused, key-at};
+ghost use Rattle.faults.specs.Reported.{state-placed, order-placed};
+ghost use Rattle.tables.specs.Refusals.{growing, key-refused, cell-refused, key-at};
 ghost use Rattle.grouped.specs.Accumulators.{flags-of};
-ghost use Rattle.grouped.specs.Walk.{row-of, wins, table, take-row, take-maybe, take-below, Same-made, Grown, Grows-not};
+ghost use Rattle.grouped.specs.Walk.{in-turn, row-of, wins, table, take-row, take-maybe, take-below, Same-made, Grown, Grows-not};
 use crate::FirstLastGroupsAccumulator;
 use crate::extremes::Extremes;
 use column::Column;
@@ -24,6 +27,7 @@ impl<S: ValueState, O: RowOrder> FirstLastGroupsAccumulator<S, O> {
     // Grows state, order and slots to the total.
     pub(crate) fn grow(&mut self, total: usize) -> Result<(), Fault>
         requires { ⌜ now self .slots .len ≤ total ⌝ ∗ ⌜ total ≤ 256 ⌝ }
+        ensures answer { λ r. ⌜ r ≡ in-turn (state-placed (outcome (mapped (S·GroupTable .declines) (growing (length (S·GroupTable .entries (now (self .entry) .state))) total)) tt) 9 0) (order-placed (outcome (mapped (O·GroupTable .declines) (growing (length (O·GroupTable .entries (now (self .entry) .order))) total)) tt) 9 0) ⌝ }
         ensures after { λ r. ⌜ Cases r (λ _. Grown (S·GroupTable .settings (now (self .entry) .state) .kinds) (O·GroupTable .settings (now (self .entry) .order) .kinds) total (table (flags-of (now (self .entry) .slots)) (S·GroupTable .entries (now (self .entry) .state)) (O·GroupTable .entries (now (self .entry) .order))) (table (flags-of (now (self .exit) .slots)) (S·GroupTable .entries (now (self .exit) .state)) (O·GroupTable .entries (now (self .exit) .order)))) (λ _. Grows-not total (table (flags-of (now (self .entry) .slots)) (S·GroupTable .entries (now (self .entry) .state)) (O·GroupTable .entries (now (self .entry) .order)))) ⌝ }
         ensures made { λ _. ⌜ Same-made (S·GroupTable .settings (now (self .entry) .state)) (S·GroupTable .settings (now (self .exit) .state)) (O·GroupTable .settings (now (self .entry) .order)) (O·GroupTable .settings (now (self .exit) .order)) (now (self .entry) .«pick_first_in_group») (now (self .exit) .«pick_first_in_group») (now (self .entry) .«ignore_nulls») (now (self .exit) .«ignore_nulls») ⌝ }
     {

@@ -5,7 +5,7 @@
 --   number-order  reads 1 to 3 columns of numbers, each sorted in its own way
 use mathlib.Core.List.{List, [], _∷_, map}
 use mathlib.Core.Bool.{Bool, true, false, not, cond}
-use Prim.Native.Nat.{ℕ, _^_}
+use Prim.Native.Nat.{_^_}
 use lib.Dec.{ltb}
 use lib.IntN.{ℤ}
 use lib.Signed.{leZ, mag}

@@ -1,7 +1,6 @@
 use mathlib.Core.Path.{ap, _∙_}
 use mathlib.Core.List.{[], _∷_}
 use mathlib.Core.Bool.{not}
-use lib.Dec.{ltb}
 use Rattle.std.proofs.shelf.Tests.{lt-ltb, le-ltb}
 use Rattle.column.specs.Checks.{refuse, first-of}
 use Rattle.column.specs.Seen.{column-seen}
