@@ -53,7 +53,7 @@ little (b ∷ bs) = b + 256 * little bs
 
 -- the signed number of 64 bits in the eight bytes from `start` on
 unfoldable pub number-in : List ℕ → ℕ → ℤ
-number-in bytes start = toZ w64 (little (part start 8 bytes) % 2 ^ 64)
+number-in bytes start = toZ w64 (little (part start 8 bytes))
 
 -- field j of the record whose 25 bytes begin at `start`: bit j of the first byte says whether it is there
 abbrev pub field-in : List ℕ → ℕ → ℕ → Option ℤ

@@ -38,8 +38,8 @@ cells-numbers xs len n h = ap (take n) (go (take len xs)) ∙ take-map number-ce
     go [] = refl
     go (y ∷ ys) = ap (λ l. number-cell y ∷ l) (go ys)
 
-pub state-laid : (xs : List (Option ℤ)) (len n : ℕ) → n ≤ len → cells-laid number-state (map (λ x. number-cell x ∷ []) (take len xs)) n ≡ numbers-laid (take n xs)
-state-laid xs len n h = ap (laid-out numbers) (cells-numbers xs len n h)
+pub state-laid : (xs : List (Option ℤ)) (len n : ℕ) → n ≤ len → cells-laid number-state (map (λ x. number-cell x ∷ []) (take len xs)) n ≡ numbers-laid (take (n - 0) xs)
+state-laid xs len n h = ap (laid-out numbers) (cells-numbers xs len n h) ∙ ap (λ i. numbers-laid (take i xs)) (let z : n ≡ n - 0 = omega arith in z)
 
 -- a key column
 column-numbered : (count j : ℕ) (ks : List (List (Option ℤ))) (len n : ℕ) → j < count → n ≤ len

@@ -2,7 +2,7 @@
 use mathlib.Core.Path.{_≡_, refl, sym, ap, ap₂, _∙_}
 use mathlib.Core.List.{List, [], _∷_, map}
 use mathlib.Core.Bool.{Bool, true, false, not, cond, _&&_}
-use Prim.Native.Nat.{ℕ, zero, suc, _+_, _*_, _%_, _^_, _<_, _≤_}
+use Prim.Native.Nat.{ℕ, zero, suc, _+_, _*_, _^_, _<_, _≤_}
 use native.Mathlib.Omega.{arith}
 use lib.Dec.{leb, ltb}
 use lib.Signed.{mag}
@@ -37,7 +37,7 @@ unfolding number-in
 number-taken c r e = ap takes-number (number-shown c r e) ∙ go (present (c .validity) r && leb (8 * r + 8) (length (c .content)))
   where
     go : (b : Bool) → takes-number (number-cell (cond b (Some (number-in (c .content) (8 * r))) None)) ≡ true
-    go true = lt-ltb (mag (number-in (c .content) (8 * r))) (2 ^ 63) (read-sfits w64 (little (part (8 * r) 8 (c .content)) % 2 ^ 64) .sfits)
+    go true = lt-ltb (mag (number-in (c .content) (8 * r))) (2 ^ 63) (read-sfits w64 (little (part (8 * r) 8 (c .content))) .sfits)
     go false = refl
 
 pub cell-short : (out : Bool) (c : Column) (r : ℕ) → cell-refused number-state out c r ≡ cell-unfit numbers out c r

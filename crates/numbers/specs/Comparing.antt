@@ -1,6 +1,7 @@
 -- Comparing: how two lists of numbers that may be missing stand to each other.
 --   number-verdict  how one stands to another in a column: by value, turned round where `descending`; the missing ones equal, below every number with nulls first and else above
 --   then            the first of two verdicts that is not Equal
+--   first-number, later-numbers   the first number of a list, missing where there is none, and those after it
 --   lex             column by column, the first that differs decides; past a list's end numbers are missing
 use mathlib.Core.List.{List, [], _∷_}
 use mathlib.Core.Bool.{cond}

@@ -1,4 +1,6 @@
 // The rules that put rows into events.
+ghost use mathlib.Core.Path.{_≡_};
+ghost use Rattle.quay.specs.Rules.{rule-code, Names};
 use std::fmt;
 
 #[derive(Clone, Copy, PartialEq, Eq, Debug)]
@@ -11,7 +13,9 @@ pub enum Rule {
 
 impl Rule {
     // The number that stands for the rule in a value column.
-    pub fn code(self) -> i64 {
+    pub fn code(self) -> i64
+        ensures { λ r. ⌜ r ≡ rule-code self ⌝ }
+    {
         match self {
             Rule::Breakdown => 1,
             Rule::ShiftEnd => 2,
@@ -21,7 +25,9 @@ impl Rule {
     }
 
     // The rule of a number, if it stands for one.
-    pub fn of_code(code: i64) -> Option<Rule> {
+    pub fn of_code(code: i64) -> Option<Rule>
+        ensures { λ r. ⌜ Names code r ⌝ }
+    {
         match code {
             1 => Some(Rule::Breakdown),
             2 => Some(Rule::ShiftEnd),

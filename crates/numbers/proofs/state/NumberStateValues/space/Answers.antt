@@ -1,5 +1,6 @@
 use native.Mathlib.Omega.{arith}
 use mathlib.Core.Path.{_≡_, sym, ap, _∙_}
+use Prim.Native.Nat.{_-_}
 use lib.ListN.{length, take}
 use Rattle.std.specs.Options.{mapped}
 use Rattle.std.specs.declared.option.Option.the-variants.{Some, None}
@@ -33,5 +34,6 @@ returns c =
     let p = passed _ _ _ (c .in-rest .ensures tt) in
     let h = drop-within _ _ p in
     let e : dropping (length (state-entries s)) (c .args .n) ≡ None = ap (λ k. dropping k (c .args .n)) (held-long _ (s .cells) (s .len) (omega arith)) ∙ p in
-    ap Ok (numbers-space (take (c .args .n) (s .cells)) (c .args .n) (length-take-le _ _ (omega arith)) ∙ ap space-of (sym (state-laid (s .cells) (s .len) (c .args .n) h)))
+    let z : c .args .n - 0 ≡ c .args .n = omega arith in
+    ap Ok (numbers-space (take (c .args .n - 0) (s .cells)) (c .args .n) (length-take-le (c .args .n - 0) (s .cells) (omega arith) ∙ z) ∙ ap space-of (sym (state-laid (s .cells) (s .len) (c .args .n) h)))
     ∙ answer-none _ _ (ap (mapped state.Table) e)

@@ -1,7 +1,6 @@
 use native.Mathlib.Omega.{arith}
 use borrow.Author.Needs.{needs}
 use mathlib.Core.Path.{_≡_, sym, ap, _∙_}
-use Prim.Native.Nat.{_-_}
 use lib.ListN.{length}
 use Rattle.std.specs.declared.option.Option.the-variants.{Some}
 use Rattle.layout.specs.Layout.{written, fits}
@@ -31,10 +30,8 @@ returns-then-not-put-numbers c =
     let s = c .args .self .now in
     let p = passed _ _ _ (c .in-rest .ensures tt) in
     let e = ap (λ k. dropping k (c .args .n)) (held-long _ (s .cells) (s .len) (omega arith)) ∙ p in
-    let z : c .args .n - 0 ≡ c .args .n = omega arith in
     let l = state-laid (s .cells) (s .len) (c .args .n) (drop-within _ _ p) in
-    let f = rw z at (c .if-not-put-numbers .ensures tt .answer) in
-    let w = writing-short number-state (state-entries s) (c .args .n) (parts-seen (c .args .out .now)) e (ap (λ x. fits x (parts-seen (c .args .out .now))) l ∙ sym f) in
+    let w = writing-short number-state (state-entries s) (c .args .n) (parts-seen (c .args .out .now)) e (ap (λ x. fits x (parts-seen (c .args .out .now))) l ∙ sym (c .if-not-put-numbers .ensures tt .answer)) in
     record { answer = answer-some _ _ _ w; after = c .if-not-put-numbers .ensures tt .after ∙ refused-same _ _ _ _ w }
 
 pub returns : need.returns
@@ -42,9 +39,6 @@ returns c =
     let s = c .args .self .now in
     let p = passed _ _ _ (c .in-rest .ensures tt) in
     let e = ap (λ k. dropping k (c .args .n)) (held-long _ (s .cells) (s .len) (omega arith)) ∙ p in
-    let z : c .args .n - 0 ≡ c .args .n = omega arith in
     let l = state-laid (s .cells) (s .len) (c .args .n) (drop-within _ _ p) in
-    let f = rw z at (c .if-not-put-numbers .ensures tt .answer) in
-    let a = rw z at (c .if-not-put-numbers .ensures tt .after) in
-    let w = writing-fine number-state (state-entries s) (c .args .n) (parts-seen (c .args .out .now)) e (ap (λ x. fits x (parts-seen (c .args .out .now))) l ∙ sym f) in
-    record { answer = answer-none _ _ w; after = a ∙ ap (λ x. written x (parts-seen (c .args .out .now))) (sym l) ∙ passed-new _ _ _ w }
+    let w = writing-fine number-state (state-entries s) (c .args .n) (parts-seen (c .args .out .now)) e (ap (λ x. fits x (parts-seen (c .args .out .now))) l ∙ sym (c .if-not-put-numbers .ensures tt .answer)) in
+    record { answer = answer-none _ _ w; after = c .if-not-put-numbers .ensures tt .after ∙ ap (λ x. written x (parts-seen (c .args .out .now))) (sym l) ∙ passed-new _ _ _ w }
