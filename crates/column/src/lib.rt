@@ -5,7 +5,7 @@ mod numbering;
 mod reading;
 
 // What the cells of a column are.
-#[derive(Clone, Copy, PartialEq, Eq, Debug)]
+#[derive(Clone, Copy)]
 pub enum Kind {
     Number,
     Bytes,
@@ -31,7 +31,7 @@ pub struct BoolColumn<'a> {
 }
 
 // Why a column cannot be made.
-#[derive(Clone, Copy, PartialEq, Eq, Debug)]
+#[derive(Clone, Copy)]
 pub enum ColumnFault {
     Kind,
     Shape,

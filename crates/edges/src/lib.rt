@@ -8,16 +8,16 @@ mod tests {
     use grouped::FirstLastGroupsAccumulator;
     use layout::Output;
     use midnight::close_day;
-    use numbers::NumberOrder;
-    use numbers::NumberOrderRows;
-    use numbers::NumberOrderTable;
-    use numbers::NumberStateTable;
-    use numbers::NumberStateValues;
-    use numbers::NumberValueState;
+    use orders::NumberOrder;
+    use orders::NumberOrderRows;
+    use orders::NumberOrderTable;
     use std::alloc::AllocError;
     use std::alloc::Global;
     use std::test::*;
     use tables::Sorting;
+    use values::NumberStateTable;
+    use values::NumberStateValues;
+    use values::NumberValueState;
 
     type Stage = FirstLastGroupsAccumulator<NumberValueState, NumberOrder>;
 

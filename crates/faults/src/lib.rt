@@ -8,16 +8,10 @@ pub use placing::order_at;
 pub use placing::own;
 pub use placing::state_at;
 use tables::OrderFault;
-use tables::OrderFaultDebug;
-use tables::OrderFaultEq;
-use tables::OrderFaultPartialEq;
 use tables::StateFault;
-use tables::StateFaultDebug;
-use tables::StateFaultEq;
-use tables::StateFaultPartialEq;
 
 // Why an accumulator declines a call on its own account.
-#[derive(Clone, Copy, PartialEq, Eq, Debug)]
+#[derive(Clone, Copy)]
 pub enum OwnFault {
     Cols,
     Rows,
@@ -28,7 +22,7 @@ pub enum OwnFault {
 }
 
 // A refusal of the accumulator's own, or a lower layer's, whole.
-#[derive(Clone, Copy, PartialEq, Eq, Debug)]
+#[derive(Clone, Copy)]
 pub enum Refusal {
     State(StateFault),
     Order(OrderFault),
@@ -36,7 +30,7 @@ pub enum Refusal {
 }
 
 // A refusal with the column and the row where it was met: 0 values, 1 to 3 order columns, 4 filter, 9 none.
-#[derive(Clone, Copy, PartialEq, Eq, Debug)]
+#[derive(Clone, Copy)]
 pub struct Fault {
     pub refusal: Refusal,
     pub column: u8,

@@ -24,7 +24,7 @@ pub struct FirstLastGroupsAccumulator<S, O> {
 }
 
 // How many groups an emission takes.
-#[derive(Clone, Copy, PartialEq, Eq, Debug)]
+#[derive(Clone, Copy)]
 pub enum EmitTo {
     All,
     First(usize),

@@ -22,7 +22,7 @@ pub struct KeyOutputs<'a> {
 }
 
 // How much of each buffer a column needs.
-#[derive(Clone, Copy, PartialEq, Eq, Debug)]
+#[derive(Clone, Copy)]
 pub struct Space {
     pub validity: usize,
     pub offsets: usize,

@@ -12,14 +12,14 @@ use grouped::EmitTo;
 use grouped::FirstLastGroupsAccumulator;
 use layout::Output;
 use midnight::close_day;
-use numbers::NumberOrder;
-use numbers::NumberOrderRows;
-use numbers::NumberOrderTable;
-use numbers::NumberStateTable;
-use numbers::NumberStateValues;
-use numbers::NumberValueState;
+use orders::NumberOrder;
+use orders::NumberOrderRows;
+use orders::NumberOrderTable;
 use std::error::AnyError;
 use tables::Sorting;
+use values::NumberStateTable;
+use values::NumberStateValues;
+use values::NumberValueState;
 
 // The number of an event that has left.
 const FINISHED: u32 = 4294967295;

@@ -1,5 +1,6 @@
 pub mod Declining
 pub mod Fronts
+pub mod Numbers
 pub mod Ordering
 pub mod Passing
 pub mod Taking

@@ -15,7 +15,7 @@ pub use state::ValueState;
 pub use table::GroupTable;
 
 // Why a group table declines to grow or to drop.
-#[derive(Clone, Copy, PartialEq, Eq, Debug)]
+#[derive(Clone, Copy)]
 pub enum TableFault {
     Total,
     Shrunk,
@@ -23,7 +23,7 @@ pub enum TableFault {
 }
 
 // Why a value state declines a call.
-#[derive(Clone, Copy, PartialEq, Eq, Debug)]
+#[derive(Clone, Copy)]
 pub enum StateFault {
     Table(TableFault),
     Group,
@@ -34,7 +34,7 @@ pub enum StateFault {
 }
 
 // Why a row order declines a call.
-#[derive(Clone, Copy, PartialEq, Eq, Debug)]
+#[derive(Clone, Copy)]
 pub enum OrderFault {
     Table(TableFault),
     Cols,
@@ -46,7 +46,7 @@ pub enum OrderFault {
 }
 
 // How one order column is sorted: `descending` turns values round, not nulls.
-#[derive(Clone, Copy, PartialEq, Eq, Debug)]
+#[derive(Clone, Copy)]
 pub struct Sorting {
     pub descending: bool,
     pub nulls_first: bool,
