@@ -3,6 +3,7 @@
 --   Given          a value column, an array of order columns, and how many of these are given
 --   Batch          the columns, a group index for each row, and the total number of groups
 --   order-columns  the order columns that are given
+--   every-row      the numbers of a batch's rows
 --   row-at         a row of a batch: its value and its key
 --   marked         there is no filter, or it is true and not null there
 --   admitted       a marked row, unless its value is null and null values are left out

@@ -3,6 +3,7 @@
 --   Result      done, a number of dropped groups for the shift notice, or a fault
 --   Answer      the result, and every output byte
 --   declined    what declines a call, where the winners ws are held
+--   answer-unless   the refusal with the buffers as they were, or the answer where there is none
 --   answer      the answer of a call, from the making, the book, the call and the buffers before it
 --   after       the book after a call: a declined one changes nothing
 --   book-after, answers   the same for a list of calls, each with its own outputs

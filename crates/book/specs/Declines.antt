@@ -2,7 +2,8 @@
 --   at-row, at-column   the fault at the lowest row of a list, or in the first order column, where a check holds
 --   order-column        the number of an order column in a fault: 1 to 3, and 3 for any later one
 --   cols, kind, rows, long   the checks COLS, KIND, ROWS and LONG: the value column first, then the order columns, then the filter
---   batch-checks        all checks of a batch in their order, where `held` groups are held
+--   flag-rows           how many rows a filter has; without one, as many as are asked for
+--   batch-checks, batch-declined   all checks of a batch in their order, where `held` groups are held, and the first that holds
 use mathlib.Core.List.{List, [], _∷_}
 use mathlib.Core.Bool.{Bool, cond, not}
 use Prim.Native.Nat.{ℕ, suc, _+_, min}
@@ -63,7 +64,7 @@ rows g marks =
     first-of (at-column (rows-check (g .value .rows)) 0 (order-columns g)
     ∷ rows-differ 4 (flag-rows marks (g .value .rows)) (g .value .rows) ∷ [])
 
--- LONG in the first n rows of order column j
+-- LONG in order column j, at the lowest of some rows
 abbrev pub long-check : Making → List ℕ → ℕ → Column → Option Fault
 long-check m rs j c = at-row (λ r. not (m .order .takes j (cell-at c r))) (λ r. fault LONG in-order (order-column j) r) rs
 

@@ -2,10 +2,12 @@
 --   To               all groups, or the first n
 --   emits            how many groups leave, where so many are held
 --   Outputs          the caller's buffers: for values, for each key column, and for set flags
---   value-shown ..   what a winner shows as value, key and set flag; a missing one is unset and all null
+--   value-shown, key-shown, set-shown   what a winner shows as value, key and set flag; a missing one is unset and all null
 --   value-parts, key-parts, set-parts   the columns of some winners, as they are written
+--   fewer, values-short, keys-short, flags-short   the checks FEWER and SPACE: too few groups, or a buffer that is too short
 --   evaluate-declined, state-declined   the checks FEWER, EMPTY and SPACE, where the winners ws are held
---   converted-flags  the flags column of a conversion: the filter with its nulls, or all true
+--   passed-on, converted-flags   the flag of a row and the flags column of a conversion: the filter with its nulls, or all true
+--   convert-declined the checks of a conversion: COLS, ROWS and SPACE
 use mathlib.Core.List.{List, [], _∷_, map}
 use mathlib.Core.Bool.{Bool, true, false, cond, not}
 use Prim.Native.Nat.{ℕ, suc}

@@ -2,7 +2,9 @@
 --   Kind        what the cells of a column are: numbers, byte strings, or records
 --   Cell        null, a number, a byte string, or a record of three numbers each of which may be absent
 --   Proper      the cells that a column of a kind can show: numbers of 64 bits, bytes, and strings so short that 256 of them fit 32-bit offsets
---   number-cell the cell of a number that may be missing, and so on for the other kinds
+--   Field-fits  the same of one field of a record
+--   same-kind, is-null   two kinds are the same; a cell is null
+--   number-cell, text-cell, fields-cell   the cell of a number, a byte string or a record that may be missing
 use mathlib.Core.Path.{_≡_}
 use mathlib.Core.List.{List}
 use mathlib.Core.Bool.{Bool, true, false}

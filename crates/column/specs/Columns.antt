@@ -5,10 +5,11 @@
 --   present     row r is not null: there are no validity bytes, or its bit is 1
 --   part        some elements of a list from a place on
 --   number-at   the number in row r; none where the row is null or its eight bytes are not all there
+--   text-there  offsets r and r + 1 are there, do not fall, and end inside the bytes
 --   text-at     the byte string between offsets r and r + 1; none where the row is null or the string is no part of the bytes
 --   octets      numbers as bytes, each modulo 256: bytes stay as they are
 --   fields-at   the three fields in row r; none where the row is null or its 25 bytes are not all there
---   cell-at     the cell in row r
+--   shown, cell-at   the cell in row r, read as a column of a kind, and of the column's own kind
 --   flag-at     the truth value in row r, or none
 --   true-at     row r is true and not null
 --   count-up    the numbers from one on, so many of them

@@ -1,7 +1,7 @@
 -- Faults: the numbers of refusals and of layers.
 --   KIND .. EMPTY     the number of each refusal, as users see it
---   in-column ..      the number of the layer that a refusal comes from
---   Fault             a refusal as reported: its number, its layer, and the column and the row where it was met
+--   in-column, in-state, in-order, in-accumulator   the number of the layer that a refusal comes from
+--   Fault, fault      a refusal as reported: its number, its layer, and the column and the row where it was met
 --   column-number     the number of each refusal of the column layer
 use Prim.Native.Nat.{ℕ}
 use Rattle.column.specs.declared.ColumnFault.{ColumnFault}
@@ -38,10 +38,6 @@ GROUP = 7
 -- an output part that is too short
 abbrev pub SPACE : ℕ
 SPACE = 8
-
--- a null flag in a merge without groups
-abbrev pub FLAGS : ℕ
-FLAGS = 9
 
 -- a total below the groups held
 abbrev pub SHRUNK : ℕ

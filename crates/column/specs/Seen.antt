@@ -2,7 +2,7 @@
 --   kind-seen, column-seen, flags-seen   the code's kind, column and boolean column
 --   marks-seen      an optional boolean column
 --   columns-seen    the order columns that are given: the first so many of an array
---   column-over     a column over the caller's slices
+--   column-over, flags-over   a column and a boolean column over the caller's slices
 use mathlib.Core.List.{List, map}
 use mathlib.Core.Bool.{cond}
 use Prim.Native.Nat.{ℕ}

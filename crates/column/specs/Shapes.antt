@@ -1,9 +1,11 @@
 -- Shapes: which parts make a column.
---   kind-of      the kind that a number stands for: 1 numbers, 2 byte strings, 3 records
+--   known-kind, kind-of   a number that stands for a kind, and which: 1 numbers, 2 byte strings, 3 records
 --   rises        the first so many offsets, and one more, never fall
 --   record-fits  25 bytes that are a record: bits 3 to 7 of the first are 0, and so are the bytes of absent fields
+--   records-fit  the first so many records are records
 --   parts-fit    offsets and bytes that fit the kind and the number of rows, in null rows too
 --   bits-fit     exactly as many bytes as the rows need bits
+--   validity-fits  no bytes at all, or exactly as many
 --   shape-fits   1,024 rows at most; no validity bytes, or as many as needed; fitting offsets and bytes
 --   column-refused, flags-refused   the checks of the making, in their order
 use mathlib.Core.List.{List, [], _∷_}

@@ -1,6 +1,7 @@
 -- Seen: the code's calls and results in the words of the book.
 --   given-seen, batch-of   the columns and the batch of a call
 --   batch-seen, emission-seen   the result of a batch and of an emission
+--   to-seen         how many groups an emission takes
 --   values-only     the buffers of a call that writes values alone; no-outputs those of one that writes nothing
 use mathlib.Core.List.{List, [], map}
 use Prim.Native.Nat.{ℕ}

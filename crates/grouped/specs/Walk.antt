@@ -4,9 +4,11 @@
 --   group-rows  the admitted rows of a group among the first n rows of a batch
 --   row-of      the row that is marked for a group; pair-of the same with the group's number
 --   Best        a marked row is the winner among the group's admitted rows so far
---   Table       what an accumulator holds: flags, cells and keys, group by group
+--   Table, table   what an accumulator holds: flags, cells and keys, group by group
 --   wins        a new key replaces what a group holds: the group is unset, or the new key beats the held one
+--   put-if      one place of a list set, where a test says so
 --   take-row    one group takes a row of a batch where that replaces what it holds; no other group changes
+--   take-maybe  the same where a row is marked
 --   take-below  the groups below a number take their marked rows
 --   Same-made   nothing of how an accumulator was made has changed
 --   in-turn     the answer of two steps, the second only where the first is not declined
@@ -54,7 +56,7 @@ abbrev pub found : Given → Option ℕ → Option Row
 found g None = None
 found g (Some r) = Some (row-at g r)
 
--- one row more, where `in` says that it is admitted and of the group
+-- the marked row after one row more, which counts where it is admitted and of the group
 abbrev pub step : (ℕ → ℕ → Bool) → Bool → Option ℕ → ℕ → Option ℕ
 step beats false b i = b
 step beats true None i = Some i

@@ -2,12 +2,15 @@
 --   Parts        the parts of an output column: the caller's buffers, or what is written to their fronts
 --   Flag-parts   the two parts of an output column of truth values
 --   bytes-of     so many bytes of a number, the lowest first
+--   number-bytes, field-bytes   the eight bytes of a number, and of a field that may be absent (has-field)
+--   number-content, string-content, record-content   the bytes of one cell in a column of each kind
 --   packed       truth values as bits, eight to a byte, the lowest first, spare bits zero
+--   validity-of  the validity bits of cells: 1 where not null
 --   laid-out     the parts of a column of cells: validity bits always; for byte strings offsets from 0 on; a null's bytes zero, a null string of length 0
---   laid-flags   the same for truth values; the value bit of a null is zero
+--   laid-flags   the same for truth values: whether one is known, and whether it holds; the value bit of a null is zero
 --   over         something written to the front of a buffer, the rest untouched
---   written      all parts written to the fronts of the buffers
---   fits         each buffer has room for its part: the space that the parts need
+--   written, written-flags   all parts written to the fronts of the buffers
+--   fits, fits-flags   each buffer has room for its part: the space that the parts need
 --   written-all, fits-all   the same of columns, each against the buffers in its place; a column without buffers does not fit
 use mathlib.Core.List.{List, [], _∷_, _++_, map}
 use mathlib.Core.Bool.{Bool, true, false, cond, not, _&&_}

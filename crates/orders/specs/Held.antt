@@ -1,6 +1,7 @@
 -- Held: what the number order holds, and how it is set.
 --   order-entries   a key for each held group: a cell for each column read
 --   order-settings  a number order compares by the columns' sortings, the first column first
+--   one-to-three    a number of columns that a number order can read
 --   columns-read    1 to 3 columns as asked for, one where another number was asked for
 use mathlib.Core.List.{List, map}
 use mathlib.Core.Bool.{Bool, cond, _&&_}

@@ -1,6 +1,8 @@
 -- Delivered: the sets of cells and the relations of the states and orders that come with the stage.
 --   sorted-leq    values by a relation, turned round where `descending`; nulls are equal to each other, below every value with nulls first and else above
+--   head-cell, tail-cells   the first cell of a key and the others
 --   by-columns    the first column that differs decides
+--   number-leq    one column of numbers, sorted
 --   number-state  reads numbers, and takes every one and null
 --   number-order  reads 1 to 3 columns of numbers, each sorted in its own way
 use mathlib.Core.List.{List, [], _∷_, map}

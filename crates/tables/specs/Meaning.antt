@@ -1,6 +1,6 @@
 -- Meaning: what a group table is, beside the entries that it holds.
 --   Settings      what no call alters: the kinds of the columns that are read, the cells taken in each, by the column's number from 0, and the relation between keys
---   State-meaning a value state by its settings: the kind of the one column that it reads, and the cells that it takes
+--   State-meaning, state-of   a value state by its settings: the kind of the one column that it reads, and the cells that it takes
 --   State-laws    a value state takes null, and takes no cell that a column of its kind could not show
 --   Order-laws    the same of a row order in each column, and that its relation is total and transitive
 --   entry         what a table holds for a group: a cell for each column read

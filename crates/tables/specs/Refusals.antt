@@ -2,8 +2,10 @@
 --   growing, dropping     the checks of growing to a total and of dropping n entries, where `held` are held
 --   grown-entries         entries of nulls at the end, up to a total
 --   unread, cell-unfit, cell-refused   the checks of a value column, of one of its rows, and of the cell there
+--   no-column             an order reads no column of this number
 --   named-unread, named-refused        the same for one named column of an order
 --   key-unfit, key-refused             the checks of all order columns at some rows, and of the cells there
+--   some-column, some-of  some column, or some member of a list, has a property
 --   key-at                the key of a row: its cell in each order column
 --   verdict               how one key stands to another
 --   writing, measuring-key, writing-key   the checks of writing out the first n cells, or the first n cells of one key column
