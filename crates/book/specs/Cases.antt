@@ -1,11 +1,16 @@
 -- Cases: worked cases as one table, through the bytes of columns.
 --   n, cells-row, row     a number cell; the row of a value and one key; the same of two numbers
 --   column, flag-column   columns that show these cells or truth values; a null flag stands over a true bit, which must not count
+--   not-false             the bit under a flag: a null flag has a true one
 --   batch, one            rows with a group for each and a total; rows that are all of group 0, with the total 1
 --   made                  an accumulator of numbers by one number key: FIRST or not, null values ignored or not, and how keys are sorted
---   blank, bare           buffers of 255s with room for two rows; buffers of no bytes
+--   ascending, descending-nulls-first   two ways to sort keys, the first with nulls last
+--   FIRST, LAST           made so, by ascending keys
+--   blank-parts, blank, bare   buffers of 255s with room for two rows; buffers of no bytes
 --   Case                  how an accumulator is made, the buffers of each call, the calls with what each results in, and the winners at the end
+--   bare-case             a case whose calls have buffers of no bytes
 --   taken, filtered, merged   an update without a filter, one with a filter, and a merge with flags, which are done
+--   two-held, most-held   two groups, and 256, are taken in, and what is then declined
 --   cases                 the table
 --   Comes-out             from the empty book on, the calls result in what the case says, and its winners are there at the end
 --   bytes-by              every output byte of a call of a FIRST that took one batch before, over blank buffers
