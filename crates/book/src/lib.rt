@@ -1,4 +1,6 @@
 // The book of a grouped accumulator.
+#![tactic(auto)]
+
 ghost use Rattle.std.specs.Prelude.{◌≡◌, length};
 ghost use Rattle.std.specs.List.{AllByRecursion as All};
 ghost use Rattle.book.specs.Cases.{cases, ComesOut, BytesWritten};

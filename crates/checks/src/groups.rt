@@ -33,7 +33,7 @@ fn below(group: usize, total: usize, row: usize) -> Result<(), Fault>
 
 // GROUP.
 pub(crate) fn check_groups(indices: &[usize], total: usize) -> Result<(), Fault>
-    ensures* { λ r. ⌜ declined_seen r ≡ at_row (λ r. leb total (slice_index indices.now r)) (λ r. fault GROUP in_accumulator 9 r) (count_up 0 (length indices.now)) ⌝ }
+    ensures { declined_seen result ≡ at_row (λ r. leb total (slice_index indices.now r)) (λ r. fault GROUP in_accumulator 9 r) (count_up 0 (length indices.now)) }
 {
     for (row, group) in indices.iter().enumerate() {
         below(*group, total, row)?;

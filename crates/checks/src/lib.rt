@@ -1,4 +1,6 @@
 // The checks of a call's columns, each call's in its order, for every value state and row order.
+#![tactic(auto)]
+
 mod batch;
 mod columns;
 mod groups;

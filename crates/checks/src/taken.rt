@@ -28,7 +28,7 @@ fn value_taken<S: ValueState>(state: &S, value: &Column, row: usize) -> Result<(
 // LONG in the value column.
 fn values_taken<S: ValueState>(state: &S, value: Column) -> Result<(), Fault>
     requires { same_kind (column_seen value).kind (state_of (S.GroupTable.settings state.now)).kind ≡ true }
-    ensures* { λ r. ⌜ declined_seen r ≡ at_row (λ r. not ((state_of (S.GroupTable.settings state.now)).takes (cell_at (column_seen value.entry) r))) (λ r. fault LONG in_state 0 r) (count_up 0 value.entry.rows) ⌝ }
+    ensures { declined_seen result ≡ at_row (λ r. not ((state_of (S.GroupTable.settings state.now)).takes (cell_at (column_seen value.entry) r))) (λ r. fault LONG in_state 0 r) (count_up 0 value.entry.rows) }
 {
     for row in 0..value.rows {
         value_taken(state, &value, row)?;

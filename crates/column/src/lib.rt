@@ -1,4 +1,6 @@
 // Columns: plain views over the caller's buffers, whose cells are defined for any parts.
+#![tactic(auto)]
+
 mod bits;
 mod making;
 mod numbering;

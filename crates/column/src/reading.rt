@@ -32,7 +32,7 @@ impl<'a> Column<'a> {
 
     // The byte string in row `r`, read as in a column of byte strings; none where it is null.
     pub fn bytes(&self, r: usize) -> Option<&'a [u8]>
-        ensures* { λ x. ⌜ option_map (λ x. x.now) x ≡ text_at (column_seen self.now) r ⌝ }
+        ensures { option_map (λ x. x.now) result ≡ text_at (column_seen self.now) r }
     {
         if valid(self.validity, r) && self.has_text(r) {
             Some(&self.data[self.offsets[r] as usize..self.offsets[r + 1] as usize])

@@ -1,4 +1,6 @@
 // Faults: why an accumulator declines a call, with the number, the layer, the column and the row of each refusal.
+#![tactic(auto)]
+
 mod numbering;
 mod placing;
 

@@ -21,11 +21,11 @@ impl<S: ValueState, O: RowOrder> FirstLastGroupsAccumulator<S, O> {
         opt_filter: Option<BoolColumn>,
         total_num_groups: usize,
     ) -> Result<(), Fault>
-        ensures* { λ r. ⌜ Obeys (shown S.GroupTable.entries S.GroupTable.settings O.GroupTable.entries O.GroupTable.settings)
+        ensures { Obeys (shown S.GroupTable.entries S.GroupTable.settings O.GroupTable.entries O.GroupTable.settings)
             self.old
             (update (batch_of values.entry orderings.entry count group_indices.now total_num_groups) (marks_seen opt_filter.entry))
-            no_outputs (record { result = batch_seen r; outputs = no_outputs })
-            self.new ⌝ }
+            no_outputs (record { result = batch_seen result; outputs = no_outputs })
+            self.new }
     {
         self.check_batch(
             values,

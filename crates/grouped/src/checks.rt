@@ -101,7 +101,7 @@ fn below(group: usize, total: usize, row: usize) -> Result<(), Fault>
 
 // GROUP.
 fn check_groups(indices: &[usize], total: usize) -> Result<(), Fault>
-    ensures* { λ r. ⌜ declined_seen r ≡ at_row (λ r. leb total (slice_index indices.now r)) (λ r. fault GROUP in_accumulator 9 r) (count_up 0 (length indices.now)) ⌝ }
+    ensures { declined_seen result ≡ at_row (λ r. leb total (slice_index indices.now r)) (λ r. fault GROUP in_accumulator 9 r) (count_up 0 (length indices.now)) }
 {
     for (row, group) in indices.iter().enumerate() {
         below(*group, total, row)?;
@@ -185,7 +185,7 @@ impl<S: ValueState, O: RowOrder> FirstLastGroupsAccumulator<S, O> {
     // LONG in the value column.
     fn values_taken(&self, value: Column) -> Result<(), Fault>
         requires { same_kind (column_seen value).kind (state_of (S.GroupTable.settings self.now.state)).kind ≡ true }
-        ensures* { λ r. ⌜ declined_seen r ≡ at_row (λ r. not ((state_of (S.GroupTable.settings self.now.state)).takes (cell_at (column_seen value.entry) r))) (λ r. fault LONG in_state 0 r) (count_up 0 value.entry.rows) ⌝ }
+        ensures { declined_seen result ≡ at_row (λ r. not ((state_of (S.GroupTable.settings self.now.state)).takes (cell_at (column_seen value.entry) r))) (λ r. fault LONG in_state 0 r) (count_up 0 value.entry.rows) }
     {
         for row in 0..value.rows {
             self.value_taken(&value, row)?;

@@ -24,12 +24,12 @@ fn emitted(to: EmitTo, held: usize) -> usize
 impl<S: ValueState, O: RowOrder> FirstLastGroupsAccumulator<S, O> {
     // Writes the values of the first groups, drops these, and answers a notice of how many.
     pub fn evaluate(&mut self, emit_to: EmitTo, out: &mut Output) -> Result<ShiftNotice, Fault>
-        ensures* obeys { λ r. ⌜ Obeys (shown S.GroupTable.entries S.GroupTable.settings O.GroupTable.entries O.GroupTable.settings)
+        ensures obeys { Obeys (shown S.GroupTable.entries S.GroupTable.settings O.GroupTable.entries O.GroupTable.settings)
             self.old
             (evaluate (to_seen emit_to))
             (values_only (parts_seen out.old))
-            (record { result = emission_seen r; outputs = values_only (parts_seen out.new) })
-            self.new ⌝ }
+            (record { result = emission_seen result; outputs = values_only (parts_seen out.new) })
+            self.new }
         ensures unspent { IfOk result (λ t. t.dropped ≤ 256) }
     {
         let n = emitted(emit_to, self.slots.len);

@@ -1,4 +1,6 @@
 // FIRST and LAST values of groups, generic over the value state and the row order.
+#![tactic(auto)]
+
 mod batches;
 mod checks;
 mod emission;

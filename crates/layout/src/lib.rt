@@ -1,4 +1,6 @@
 // Emission: cells written to the caller's buffers in Arrow's layout.
+#![tactic(auto)]
+
 ghost use Rattle.std.specs.Prelude.{◌≡◌};
 ghost use Rattle.layout.specs.Written.{parts_seen, roomy};
 

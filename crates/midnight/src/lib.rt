@@ -1,4 +1,6 @@
 // Midnight: finished events leave the stage as a prefix, and the list of open group numbers follows.
+#![tactic(auto)]
+
 ghost use Rattle.std.specs.Prelude.{◌≡◌, map, MatchResult};
 ghost use Rattle.layout.specs.Written.{parts_seen};
 ghost use Rattle.book.specs.Calls.{evaluate};
@@ -19,12 +21,12 @@ pub fn close_day<S: ValueState, O: RowOrder>(
     out: &mut Output,
     open: &mut [u32],
 ) -> Result<u32, Fault>
-    ensures* obeys { λ r. ⌜ Obeys (shown S.GroupTable.entries S.GroupTable.settings O.GroupTable.entries O.GroupTable.settings)
+    ensures obeys { Obeys (shown S.GroupTable.entries S.GroupTable.settings O.GroupTable.entries O.GroupTable.settings)
         stage.old
         (evaluate (to_seen leaving))
         (values_only (parts_seen out.old))
-        (record { result = day_seen r; outputs = values_only (parts_seen out.new) })
-        stage.new ⌝ }
+        (record { result = day_seen result; outputs = values_only (parts_seen out.new) })
+        stage.new }
     ensures renumbers { MatchResult result (λ n. «open».new ≡ map (renumbered n) «open».old) (λ _. «open».new ≡ «open».old) }
 {
     let mut notice = stage.evaluate(leaving, out)?;

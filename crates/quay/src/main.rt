@@ -1,4 +1,6 @@
 // One simulated day on the quay and the midnight after it, through the stage.
+#![tactic(auto)]
+
 mod buffers;
 mod day;
 mod rules;

@@ -1,4 +1,6 @@
 // Group tables, and the value states and row orders that build on them.
+#![tactic(auto)]
+
 mod checks;
 mod order;
 mod state;

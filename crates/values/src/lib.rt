@@ -1,4 +1,6 @@
 // The value state of numbers.
+#![tactic(auto)]
+
 mod state;
 mod state_table;
 
