@@ -6,4 +6,4 @@ use Rattle.faults.specs.Reported.{declined_seen, order_placed}
 use Rattle.checks.proofs.kinds.order_kind.Goals as goal
 
 pub returns : goal.returns
-returns g c = ap declined_seen (c.order-at.ensures ∙ ap₂ (λ x n. order_placed x n 0) c.reads-named.ensures c.column_number.ensures) ∙ order_kind_is _ c.args.j (column_seen c.args.column.now) (order_column c.args.j) c.requires.read
+returns g c = ap declined_seen (c.order_at.ensures ∙ ap₂ (λ x n. order_placed x n 0) c.reads_named.ensures c.column_number.ensures) ∙ order_kind_is _ c.args.j (column_seen c.args.column.now) (order_column c.args.j) c.requires.read

@@ -5,4 +5,4 @@ use Rattle.faults.specs.Reported.{declined_seen, state_placed}
 use Rattle.checks.proofs.kinds.value_kind.Goals as goal
 
 pub returns : goal.returns
-returns g c = ap declined_seen (c.state-at.ensures ∙ ap (λ x. state_placed x 0 0) c.reads.ensures) ∙ value_kind_is _ (column_seen c.args.value.now)
+returns g c = ap declined_seen (c.state_at.ensures ∙ ap (λ x. state_placed x 0 0) c.reads.ensures) ∙ value_kind_is _ (column_seen c.args.value.now)

@@ -4,23 +4,23 @@ use Rattle.book.specs.Declines.{kind, kind_check, long_check, rows_check}
 use Rattle.checks.proofs.Checking.{column_done, column_here, column_next, column_passed, exits, refuse_none, rows_same}
 use Rattle.checks.proofs.taken.keys_taken.Goals as goal
 
-pub column-taken-requires : goal.column-taken-requires
-column-taken-requires g c = record {
+pub column_taken-requires : goal.column_taken-requires
+column_taken-requires g c = record {
   read = omega arith;
   kind = refuse_none _ _ (column_passed (kind_check (g.O.GroupTable.settings c.args.order.now).kinds) c.args.orders c.args.count c.loop-j.j _ (omega arith) (omega arith) c.requires.kind);
   alike = rows_same _ _ _ (column_passed (rows_check c.args.rows) c.args.orders c.args.count c.loop-j.j _ (omega arith) (omega arith) c.requires.alike);
 }
 
-pub returns-in-err-column-taken : goal.returns-in-err-column-taken
-returns-in-err-column-taken g c =
-    exits c.from-residual.result _ _ c.from-residual.ensures.1
+pub returns-in_err-column_taken : goal.returns-in_err-column_taken
+returns-in_err-column_taken g c =
+    exits c.from_residual.result _ _ c.from_residual.ensures.1
     (sym (column_here (long_check (g.O.GroupTable.settings c.args.order.now).takes (count_up 0 c.args.rows)) c.args.orders c.args.count c.loop-j.j _ _ (omega arith) (omega arith)
-    (sym c.in-err-column-taken.ensures)) ∙ c.loop-j.invariant)
+    (sym c.in_err-column_taken.ensures)) ∙ c.loop-j.invariant)
 
 pub loop-j-preserved : goal.loop-j-preserved
 loop-j-preserved g c =
     sym (column_next (long_check (g.O.GroupTable.settings c.args.order.now).takes (count_up 0 c.args.rows)) c.args.orders c.args.count c.loop-j.j _ (omega arith) (omega arith)
-    (sym c.in-ok-column-taken.ensures)) ∙ c.loop-j.invariant
+    (sym c.in_ok-column_taken.ensures)) ∙ c.loop-j.invariant
 
 pub returns : goal.returns
 returns g c = sym (column_done (long_check (g.O.GroupTable.settings c.args.order.now).takes (count_up 0 c.args.rows)) c.args.orders c.args.count c.loop-j.j (omega arith) (omega arith)) ∙ c.loop-j.invariant

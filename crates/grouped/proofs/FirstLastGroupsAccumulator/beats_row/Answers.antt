@@ -5,4 +5,4 @@ use Rattle.grouped.proofs.FirstLastGroupsAccumulator.beats_row.Goals as goal
 
 pub returns : goal.returns
 unfolding ahead
-returns g c = ap Ok (c.better.ensures ∙ ap (picks c.args.self.now.pick_first_in_group) (placed_ok _ _ _ _ 9 0 c.compare-rows.ensures c.requires c.in-ok-verdict.ensures))
+returns g c = ap Ok (c.better.ensures ∙ ap (picks c.args.self.now.pick_first_in_group) (placed_ok _ _ _ _ 9 0 c.compare_rows.ensures c.requires c.in_ok-verdict.ensures))

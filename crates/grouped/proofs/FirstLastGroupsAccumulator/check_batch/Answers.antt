@@ -9,77 +9,77 @@ use Rattle.grouped.specs.Accumulators.{made_of}
 use Rattle.grouped.specs.Seen.{given_seen}
 use Rattle.grouped.proofs.FirstLastGroupsAccumulator.check_batch.Goals as goal
 
-pub returns-in-err-check-cols : goal.returns-in-err-check-cols
+pub returns-in_err-check_cols : goal.returns-in_err-check_cols
 unfolding batch_declined
-returns-in-err-check-cols g c = exits c.from-residual.result _ _ c.from-residual.ensures.1
-    (stops _ _ _ (c.in-err-check-cols.ensures ∙ cols_same (made_of g.S.GroupTable.settings g.O.GroupTable.settings c.args.self.now) c.args.value c.args.orders c.args.count (search rules)))
+returns-in_err-check_cols g c = exits c.from_residual.result _ _ c.from_residual.ensures.1
+    (stops _ _ _ (c.in_err-check_cols.ensures ∙ cols_same (made_of g.S.GroupTable.settings g.O.GroupTable.settings c.args.self.now) c.args.value c.args.orders c.args.count (search rules)))
 
-pub check-kinds-requires : goal.check-kinds-requires
-check-kinds-requires g c = record {
-  few = (cols_give _ _ _ c.in-ok-check-cols.ensures).0;
-  read = omega (arith, (cols_give c.args.count (length (g.O.GroupTable.settings c.args.self.now.order).kinds) _ c.in-ok-check-cols.ensures).1);
+pub check_kinds-requires : goal.check_kinds-requires
+check_kinds-requires g c = record {
+  few = (cols_give _ _ _ c.in_ok-check_cols.ensures).0;
+  read = omega (arith, (cols_give c.args.count (length (g.O.GroupTable.settings c.args.self.now.order).kinds) _ c.in_ok-check_cols.ensures).1);
 }
 
-pub returns-in-err-check-kinds : goal.returns-in-err-check-kinds
+pub returns-in_err-check_kinds : goal.returns-in_err-check_kinds
 unfolding batch_declined
-returns-in-err-check-kinds g c = exits c.from-residual-in-err-check-kinds.result _ _ c.from-residual-in-err-check-kinds.ensures.1
-    (goes_on _ _ _ (c.in-ok-check-cols.ensures ∙ cols_same (made_of g.S.GroupTable.settings g.O.GroupTable.settings c.args.self.now) c.args.value c.args.orders c.args.count (search rules))
-    (stops _ _ _ c.in-err-check-kinds.ensures))
+returns-in_err-check_kinds g c = exits c.from_residual-in_err-check_kinds.result _ _ c.from_residual-in_err-check_kinds.ensures.1
+    (goes_on _ _ _ (c.in_ok-check_cols.ensures ∙ cols_same (made_of g.S.GroupTable.settings g.O.GroupTable.settings c.args.self.now) c.args.value c.args.orders c.args.count (search rules))
+    (stops _ _ _ c.in_err-check_kinds.ensures))
 
-pub check-rows-requires : goal.check-rows-requires
-check-rows-requires g c = (cols_give _ _ _ c.in-ok-check-cols.ensures).0
+pub check_rows-requires : goal.check_rows-requires
+check_rows-requires g c = (cols_give _ _ _ c.in_ok-check_cols.ensures).0
 
-pub returns-in-err-check-rows : goal.returns-in-err-check-rows
+pub returns-in_err-check_rows : goal.returns-in_err-check_rows
 unfolding batch_declined
-returns-in-err-check-rows g c = exits c.from-residual-in-err-check-rows.result _ _ c.from-residual-in-err-check-rows.ensures.1
-    (goes_on _ _ _ (c.in-ok-check-cols.ensures ∙ cols_same (made_of g.S.GroupTable.settings g.O.GroupTable.settings c.args.self.now) c.args.value c.args.orders c.args.count (search rules))
-    (goes_on _ _ _ c.in-ok-check-kinds.ensures
-    (stops _ _ _ c.in-err-check-rows.ensures)))
+returns-in_err-check_rows g c = exits c.from_residual-in_err-check_rows.result _ _ c.from_residual-in_err-check_rows.ensures.1
+    (goes_on _ _ _ (c.in_ok-check_cols.ensures ∙ cols_same (made_of g.S.GroupTable.settings g.O.GroupTable.settings c.args.self.now) c.args.value c.args.orders c.args.count (search rules))
+    (goes_on _ _ _ c.in_ok-check_kinds.ensures
+    (stops _ _ _ c.in_err-check_rows.ensures)))
 
-pub returns-in-err-same-rows : goal.returns-in-err-same-rows
+pub returns-in_err-same_rows : goal.returns-in_err-same_rows
 unfolding batch_declined
-returns-in-err-same-rows g c = exits c.from-residual-in-err-same-rows.result _ _ c.from-residual-in-err-same-rows.ensures.1
-    (goes_on _ _ _ (c.in-ok-check-cols.ensures ∙ cols_same (made_of g.S.GroupTable.settings g.O.GroupTable.settings c.args.self.now) c.args.value c.args.orders c.args.count (search rules))
-    (goes_on _ _ _ c.in-ok-check-kinds.ensures
-    (goes_on _ _ _ c.in-ok-check-rows.ensures
-    (stops _ _ _ c.in-err-same-rows.ensures))))
+returns-in_err-same_rows g c = exits c.from_residual-in_err-same_rows.result _ _ c.from_residual-in_err-same_rows.ensures.1
+    (goes_on _ _ _ (c.in_ok-check_cols.ensures ∙ cols_same (made_of g.S.GroupTable.settings g.O.GroupTable.settings c.args.self.now) c.args.value c.args.orders c.args.count (search rules))
+    (goes_on _ _ _ c.in_ok-check_kinds.ensures
+    (goes_on _ _ _ c.in_ok-check_rows.ensures
+    (stops _ _ _ c.in_err-same_rows.ensures))))
 
-pub returns-in-err-check-total : goal.returns-in-err-check-total
+pub returns-in_err-check_total : goal.returns-in_err-check_total
 unfolding batch_declined
-returns-in-err-check-total g c = exits c.from-residual-in-err-check-total.result _ _ c.from-residual-in-err-check-total.ensures.1
-    (goes_on _ _ _ (c.in-ok-check-cols.ensures ∙ cols_same (made_of g.S.GroupTable.settings g.O.GroupTable.settings c.args.self.now) c.args.value c.args.orders c.args.count (search rules))
-    (goes_on _ _ _ c.in-ok-check-kinds.ensures
-    (goes_on _ _ _ c.in-ok-check-rows.ensures
-    (goes_on _ _ _ c.in-ok-same-rows.ensures
-    (two_stop (refuse (ltb 256 c.args.total) (own TOTAL)) (refuse (ltb c.args.total (length (take c.args.self.now.slots.len c.args.self.now.slots.set))) (own SHRUNK)) _ _ (c.in-err-check-total.ensures ∙ ap (λ k. first_of (refuse (ltb 256 c.args.total) (own TOTAL) ∷ refuse (ltb c.args.total k) (own SHRUNK) ∷ [])) (sym (length-take-le c.args.self.now.slots.len c.args.self.now.slots.set c.args.self.now.slots.few))))))))
+returns-in_err-check_total g c = exits c.from_residual-in_err-check_total.result _ _ c.from_residual-in_err-check_total.ensures.1
+    (goes_on _ _ _ (c.in_ok-check_cols.ensures ∙ cols_same (made_of g.S.GroupTable.settings g.O.GroupTable.settings c.args.self.now) c.args.value c.args.orders c.args.count (search rules))
+    (goes_on _ _ _ c.in_ok-check_kinds.ensures
+    (goes_on _ _ _ c.in_ok-check_rows.ensures
+    (goes_on _ _ _ c.in_ok-same_rows.ensures
+    (two_stop (refuse (ltb 256 c.args.total) (own TOTAL)) (refuse (ltb c.args.total (length (take c.args.self.now.slots.len c.args.self.now.slots.set))) (own SHRUNK)) _ _ (c.in_err-check_total.ensures ∙ ap (λ k. first_of (refuse (ltb 256 c.args.total) (own TOTAL) ∷ refuse (ltb c.args.total k) (own SHRUNK) ∷ [])) (sym (length-take-le c.args.self.now.slots.len c.args.self.now.slots.set c.args.self.now.slots.few))))))))
 
-pub returns-in-err-check-groups : goal.returns-in-err-check-groups
+pub returns-in_err-check_groups : goal.returns-in_err-check_groups
 unfolding batch_declined
-returns-in-err-check-groups g c = exits c.from-residual-in-err-check-groups.result _ _ c.from-residual-in-err-check-groups.ensures.1
-    (goes_on _ _ _ (c.in-ok-check-cols.ensures ∙ cols_same (made_of g.S.GroupTable.settings g.O.GroupTable.settings c.args.self.now) c.args.value c.args.orders c.args.count (search rules))
-    (goes_on _ _ _ c.in-ok-check-kinds.ensures
-    (goes_on _ _ _ c.in-ok-check-rows.ensures
-    (goes_on _ _ _ c.in-ok-same-rows.ensures
-    (goes_on _ _ _ (two_pass (refuse (ltb 256 c.args.total) (own TOTAL)) (refuse (ltb c.args.total c.args.self.now.slots.len) (own SHRUNK)) c.in-ok-check-total.ensures).0
-    (goes_on _ _ _ ((two_pass (refuse (ltb 256 c.args.total) (own TOTAL)) (refuse (ltb c.args.total c.args.self.now.slots.len) (own SHRUNK)) c.in-ok-check-total.ensures).1 ∙ ap (λ k. refuse (ltb c.args.total k) (own SHRUNK)) (sym (length-take-le c.args.self.now.slots.len c.args.self.now.slots.set c.args.self.now.slots.few)))
-    (stops _ _ _ (c.in-err-check-groups.ensures ∙ ap (λ k. at_row (λ r. leb c.args.total (get_or c.args.indices.now r 0)) (λ r. fault GROUP in_accumulator 9 r) (count_up 0 k)) (rows_same (length c.args.indices.now) c.args.value.rows (fault ROWS in_accumulator 9 0) (sym c.in-ok-same-rows.ensures))))))))))
+returns-in_err-check_groups g c = exits c.from_residual-in_err-check_groups.result _ _ c.from_residual-in_err-check_groups.ensures.1
+    (goes_on _ _ _ (c.in_ok-check_cols.ensures ∙ cols_same (made_of g.S.GroupTable.settings g.O.GroupTable.settings c.args.self.now) c.args.value c.args.orders c.args.count (search rules))
+    (goes_on _ _ _ c.in_ok-check_kinds.ensures
+    (goes_on _ _ _ c.in_ok-check_rows.ensures
+    (goes_on _ _ _ c.in_ok-same_rows.ensures
+    (goes_on _ _ _ (two_pass (refuse (ltb 256 c.args.total) (own TOTAL)) (refuse (ltb c.args.total c.args.self.now.slots.len) (own SHRUNK)) c.in_ok-check_total.ensures).0
+    (goes_on _ _ _ ((two_pass (refuse (ltb 256 c.args.total) (own TOTAL)) (refuse (ltb c.args.total c.args.self.now.slots.len) (own SHRUNK)) c.in_ok-check_total.ensures).1 ∙ ap (λ k. refuse (ltb c.args.total k) (own SHRUNK)) (sym (length-take-le c.args.self.now.slots.len c.args.self.now.slots.set c.args.self.now.slots.few)))
+    (stops _ _ _ (c.in_err-check_groups.ensures ∙ ap (λ k. at_row (λ r. leb c.args.total (get_or c.args.indices.now r 0)) (λ r. fault GROUP in_accumulator 9 r) (count_up 0 k)) (rows_same (length c.args.indices.now) c.args.value.rows (fault ROWS in_accumulator 9 0) (sym c.in_ok-same_rows.ensures))))))))))
 
-pub check-long-requires : goal.check-long-requires
-check-long-requires g c = record {
-  few = (cols_give _ _ _ c.in-ok-check-cols.ensures).0;
-  read = omega (arith, (cols_give c.args.count (length (g.O.GroupTable.settings c.args.self.now.order).kinds) _ c.in-ok-check-cols.ensures).1);
-  kinds = sym c.in-ok-check-kinds.ensures;
-  alike = rows_parts (given_seen c.args.value c.args.orders c.args.count) _ (sym c.in-ok-check-rows.ensures);
+pub check_long-requires : goal.check_long-requires
+check_long-requires g c = record {
+  few = (cols_give _ _ _ c.in_ok-check_cols.ensures).0;
+  read = omega (arith, (cols_give c.args.count (length (g.O.GroupTable.settings c.args.self.now.order).kinds) _ c.in_ok-check_cols.ensures).1);
+  kinds = sym c.in_ok-check_kinds.ensures;
+  alike = rows_parts (given_seen c.args.value c.args.orders c.args.count) _ (sym c.in_ok-check_rows.ensures);
 }
 
 pub returns : goal.returns
 unfolding batch_declined
 returns g c =
-    (goes_on _ _ _ (c.in-ok-check-cols.ensures ∙ cols_same (made_of g.S.GroupTable.settings g.O.GroupTable.settings c.args.self.now) c.args.value c.args.orders c.args.count (search rules))
-    (goes_on _ _ _ c.in-ok-check-kinds.ensures
-    (goes_on _ _ _ c.in-ok-check-rows.ensures
-    (goes_on _ _ _ c.in-ok-same-rows.ensures
-    (goes_on _ _ _ (two_pass (refuse (ltb 256 c.args.total) (own TOTAL)) (refuse (ltb c.args.total c.args.self.now.slots.len) (own SHRUNK)) c.in-ok-check-total.ensures).0
-    (goes_on _ _ _ ((two_pass (refuse (ltb 256 c.args.total) (own TOTAL)) (refuse (ltb c.args.total c.args.self.now.slots.len) (own SHRUNK)) c.in-ok-check-total.ensures).1 ∙ ap (λ k. refuse (ltb c.args.total k) (own SHRUNK)) (sym (length-take-le c.args.self.now.slots.len c.args.self.now.slots.set c.args.self.now.slots.few)))
-    (goes_on _ _ _ (c.in-ok-check-groups.ensures ∙ ap (λ k. at_row (λ r. leb c.args.total (get_or c.args.indices.now r 0)) (λ r. fault GROUP in_accumulator 9 r) (count_up 0 k)) (rows_same (length c.args.indices.now) c.args.value.rows (fault ROWS in_accumulator 9 0) (sym c.in-ok-same-rows.ensures)))
-    (ends_so _ _ c.check-long.ensures))))))))
+    (goes_on _ _ _ (c.in_ok-check_cols.ensures ∙ cols_same (made_of g.S.GroupTable.settings g.O.GroupTable.settings c.args.self.now) c.args.value c.args.orders c.args.count (search rules))
+    (goes_on _ _ _ c.in_ok-check_kinds.ensures
+    (goes_on _ _ _ c.in_ok-check_rows.ensures
+    (goes_on _ _ _ c.in_ok-same_rows.ensures
+    (goes_on _ _ _ (two_pass (refuse (ltb 256 c.args.total) (own TOTAL)) (refuse (ltb c.args.total c.args.self.now.slots.len) (own SHRUNK)) c.in_ok-check_total.ensures).0
+    (goes_on _ _ _ ((two_pass (refuse (ltb 256 c.args.total) (own TOTAL)) (refuse (ltb c.args.total c.args.self.now.slots.len) (own SHRUNK)) c.in_ok-check_total.ensures).1 ∙ ap (λ k. refuse (ltb c.args.total k) (own SHRUNK)) (sym (length-take-le c.args.self.now.slots.len c.args.self.now.slots.set c.args.self.now.slots.few)))
+    (goes_on _ _ _ (c.in_ok-check_groups.ensures ∙ ap (λ k. at_row (λ r. leb c.args.total (get_or c.args.indices.now r 0)) (λ r. fault GROUP in_accumulator 9 r) (count_up 0 k)) (rows_same (length c.args.indices.now) c.args.value.rows (fault ROWS in_accumulator 9 0) (sym c.in_ok-same_rows.ensures)))
+    (ends_so _ _ c.check_long.ensures))))))))

@@ -2,10 +2,10 @@ use Rattle.book.specs.Declines.{kind}
 use Rattle.grouped.proofs.Checking.{exits, first_some, first_then}
 use Rattle.grouped.proofs.FirstLastGroupsAccumulator.check_kinds.Goals as goal
 
-pub returns-in-err-value-kind : goal.returns-in-err-value-kind
+pub returns-in_err-value_kind : goal.returns-in_err-value_kind
 unfolding kind
-returns-in-err-value-kind g c = exits c.from-residual.result _ _ c.from-residual.ensures.1 (first_some _ _ _ c.in-err-value-kind.ensures)
+returns-in_err-value_kind g c = exits c.from_residual.result _ _ c.from_residual.ensures.1 (first_some _ _ _ c.in_err-value_kind.ensures)
 
 pub returns : goal.returns
 unfolding kind
-returns g c = first_then _ _ _ c.in-ok-value-kind.ensures c.order-kinds.ensures
+returns g c = first_then _ _ _ c.in_ok-value_kind.ensures c.order_kinds.ensures

@@ -18,8 +18,8 @@ returns-then-n-self g c = record {
   unspent = tt;
 }
 
-pub returns-in-err-state-at : goal.returns-in-err-state-at
-returns-in-err-state-at g c =
+pub returns-in_err-state_at : goal.returns-in_err-state_at
+returns-in_err-state_at g c =
     let a = c.args.self.now in
     let n = c.emitted-n.result in
     let s = g.S.GroupTable.settings a.state in
@@ -27,23 +27,23 @@ returns-in-err-state-at g c =
     record {
       obeys = obeys_from_held _ g.met.S.ValueState.lawful g.met.O.RowOrder.lawful a _ _ _ _ (remade _ _ (ap state_of c.take.ensures.kept) refl)
           (λ ws h.
-          let many : n ≤ length es = omega (arith, cells_long es, values_many _ a (to_seen c.args.emit-to) n c.emitted-n.ensures ws h, c.if-n-self.false) in
-          let short = took_not s es n (parts_seen c.args.out.now) _ _ many c.take.ensures.answer c.in-err-state-at.ensures in
+          let many : n ≤ length es = omega (arith, cells_long es, values_many _ a (to_seen c.args.emit_to) n c.emitted-n.ensures ws h, c.if-n-self.false) in
+          let short = took_not s es n (parts_seen c.args.out.now) _ _ many c.take.ensures.answer c.in_err-state_at.ensures in
           eval_short _ a _ n c.emitted-n.ensures ws h c.take.new.self (ap state_of c.take.ensures.kept) _ _ _
           (taking s es (g.S.GroupTable.entries c.take.new.self) n (parts_seen c.args.out.now) _ many c.take.ensures.output c.take.ensures.after) c.if-n-self.false
-          short.0 _ (emission_refused _ _ c.from-residual.ensures.1 ∙ ap refused short.1));
-      unspent = none_unspent _ _ c.from-residual.ensures.1;
+          short.0 _ (emission_refused _ _ c.from_residual.ensures.1 ∙ ap refused short.1));
+      unspent = none_unspent _ _ c.from_residual.ensures.1;
     }
 
-pub returns-in-err-order-at : goal.returns-in-err-order-at
-returns-in-err-order-at g c =
+pub returns-in_err-order_at : goal.returns-in_err-order_at
+returns-in_err-order_at g c =
     let a = c.args.self.now in
     let n = c.emitted-n.result in
     record {
-      obeys = obeys_from_held _ g.met.S.ValueState.lawful g.met.O.RowOrder.lawful a _ _ _ _ (remade _ _ (ap state_of c.take.ensures.kept) c.drop-first.ensures.kept)
-          (λ ws h. absurd (dropped_not _ _ _ _ 9 0 c.drop-first.ensures.answer c.in-err-order-at.ensures
-          (drop_fine (length (g.O.GroupTable.entries a.order)) n (omega (arith, keys_many _ a (to_seen c.args.emit-to) n c.emitted-n.ensures ws h, c.if-n-self.false)))));
-      unspent = none_unspent _ _ c.from-residual-in-err-order-at.ensures.1;
+      obeys = obeys_from_held _ g.met.S.ValueState.lawful g.met.O.RowOrder.lawful a _ _ _ _ (remade _ _ (ap state_of c.take.ensures.kept) c.drop_first.ensures.kept)
+          (λ ws h. absurd (dropped_not _ _ _ _ 9 0 c.drop_first.ensures.answer c.in_err-order_at.ensures
+          (drop_fine (length (g.O.GroupTable.entries a.order)) n (omega (arith, keys_many _ a (to_seen c.args.emit_to) n c.emitted-n.ensures ws h, c.if-n-self.false)))));
+      unspent = none_unspent _ _ c.from_residual-in_err-order_at.ensures.1;
     }
 
 pub overflow-cast-n : goal.overflow-cast-n
@@ -56,14 +56,14 @@ returns g c =
     let s = g.S.GroupTable.settings a.state in
     let es = g.S.GroupTable.entries a.state in
     record {
-      obeys = obeys_from_held _ g.met.S.ValueState.lawful g.met.O.RowOrder.lawful a _ _ _ _ (remade _ _ (ap state_of c.take.ensures.kept) c.drop-first.ensures.kept)
+      obeys = obeys_from_held _ g.met.S.ValueState.lawful g.met.O.RowOrder.lawful a _ _ _ _ (remade _ _ (ap state_of c.take.ensures.kept) c.drop_first.ensures.kept)
           (λ ws h.
-          let many : n ≤ length es = omega (arith, cells_long es, values_many _ a (to_seen c.args.emit-to) n c.emitted-n.ensures ws h, c.if-n-self.false) in
+          let many : n ≤ length es = omega (arith, cells_long es, values_many _ a (to_seen c.args.emit_to) n c.emitted-n.ensures ws h, c.if-n-self.false) in
           eval_done _ a _ n c.emitted-n.ensures ws h c.take.new.self (ap state_of c.take.ensures.kept) _ _ _
           (taking s es (g.S.GroupTable.entries c.take.new.self) n (parts_seen c.args.out.now) _ many c.take.ensures.output c.take.ensures.after) c.if-n-self.false
-          c.drop-first.new.self c.drop-first.ensures.kept
-          (done_so _ _ _ _ c.drop-first.ensures.after (dropped_on _ _ _ _ 9 0 c.drop-first.ensures.answer c.in-ok-order-at.ensures))
-          c.drop-first-2.new.self c.drop-first-2.ensures
-          (took_on s es n (parts_seen c.args.out.now) _ _ many c.take.ensures.answer c.in-ok-state-at.ensures) _ (ap dropped c.of.ensures));
+          c.drop_first.new.self c.drop_first.ensures.kept
+          (done_so _ _ _ _ c.drop_first.ensures.after (dropped_on _ _ _ _ 9 0 c.drop_first.ensures.answer c.in_ok-order_at.ensures))
+          c.drop_first-2.new.self c.drop_first-2.ensures
+          (took_on s es n (parts_seen c.args.out.now) _ _ many c.take.ensures.answer c.in_ok-state_at.ensures) _ (ap dropped c.of.ensures));
       unspent = omega (arith, c.of.ensures, c.if-n-self.false, a.slots.small);
     }

@@ -10,8 +10,8 @@ use Rattle.grouped.specs.Accumulators.{flags_of}
 use Rattle.grouped.specs.Walk.{Table, row_of, table, take_maybe}
 use Rattle.grouped.proofs.FirstLastGroupsAccumulator.take_winners.Goals as goal
 
-pub take-group-requires : goal.take-group-requires
-take-group-requires g c =
+pub take_group-requires : goal.take_group-requires
+take_group-requires g c =
     let s = c.args.self.now in
     let u = c.loop-g.self in
     let t = table (flags_of s.slots) (g.S.GroupTable.entries s.state) (g.O.GroupTable.entries s.order) in
@@ -37,10 +37,10 @@ loop-g-preserved g c =
     let s = c.args.self.now in
     let t = table (flags_of s.slots) (g.S.GroupTable.entries s.state) (g.O.GroupTable.entries s.order) in
     let made = c.loop-g.invariant.0 in
-    let more = c.take-group.ensures.made in
+    let more = c.take_group.ensures.made in
     let u = table (flags_of c.loop-g.self.slots) (g.S.GroupTable.entries c.loop-g.self.state) (g.O.GroupTable.entries c.loop-g.self.order) in (
       record { state = more.state ∙ made.state; order = more.order ∙ made.order; first = more.first ∙ made.first; nulls = more.nulls ∙ made.nulls },
       below_more (g.O.GroupTable.settings s.order) s.pick_first_in_group (column_seen c.args.value.now) (columns_seen c.args.columns c.args.count) t u _ (row_of c.args.best.now) c.loop-g.g c.loop-g.invariant.1
-          (c.take-group.ensures.after
+          (c.take_group.ensures.after
           ∙ ap₂ (λ x y. take_maybe x y (column_seen c.args.value.now) (columns_seen c.args.columns c.args.count) u c.loop-g.g (row_of c.args.best.now c.loop-g.g)) made.order made.first),
     )

@@ -12,56 +12,56 @@ use Rattle.grouped.specs.Seen.{batch_of, batch_seen, no_outputs}
 use Rattle.grouped.specs.Walk.{row_of, table}
 use Rattle.grouped.proofs.FirstLastGroupsAccumulator.update_batch.Goals as goal
 
-pub returns-in-err-check-batch : goal.returns-in-err-check-batch
-returns-in-err-check-batch g c =
+pub returns-in_err-check_batch : goal.returns-in_err-check_batch
+returns-in_err-check_batch g c =
     obeys_from_held _ g.met.S.ValueState.lawful g.met.O.RowOrder.lawful c.args.self.now _ _ _ _ refl
     (declines g.S.GroupTable.entries g.S.GroupTable.settings g.O.GroupTable.entries g.O.GroupTable.settings c.args.self.now
-    (batch_of c.args.values c.args.orderings c.args.count c.args.group-indices.now c.args.total-num-groups) (marks_seen c.args.opt-filter) no_outputs
-    _ c.in-err-check-batch.ensures _ (seen_refused _ _ (exits c.from-residual.result _ _ c.from-residual.ensures.1 refl)))
+    (batch_of c.args.values c.args.orderings c.args.count c.args.group_indices.now c.args.total_num_groups) (marks_seen c.args.opt_filter) no_outputs
+    _ c.in_err-check_batch.ensures _ (seen_refused _ _ (exits c.from_residual.result _ _ c.from_residual.ensures.1 refl)))
 
 pub grow-requires : goal.grow-requires
 grow-requires g c =
     let a = c.args.self.now in
-    let p = passed (g.S.GroupTable.settings a.state) (made_of g.S.GroupTable.settings g.O.GroupTable.settings a) (length (flags_of a.slots)) (batch_of c.args.values c.args.orderings c.args.count c.args.group-indices.now c.args.total-num-groups) (marks_seen c.args.opt-filter) refl (sym c.in-ok-check-batch.ensures) in
+    let p = passed (g.S.GroupTable.settings a.state) (made_of g.S.GroupTable.settings g.O.GroupTable.settings a) (length (flags_of a.slots)) (batch_of c.args.values c.args.orderings c.args.count c.args.group_indices.now c.args.total_num_groups) (marks_seen c.args.opt_filter) refl (sym c.in_ok-check_batch.ensures) in
     (omega (arith, p.room, length-take-le a.slots.len a.slots.set a.slots.few), p.few)
 
-pub returns-in-err-grow : goal.returns-in-err-grow
-returns-in-err-grow g c =
+pub returns-in_err-grow : goal.returns-in_err-grow
+returns-in_err-grow g c =
     let a = c.args.self.now in
-    let b = batch_of c.args.values c.args.orderings c.args.count c.args.group-indices.now c.args.total-num-groups in
-    let p = passed (g.S.GroupTable.settings a.state) (made_of g.S.GroupTable.settings g.O.GroupTable.settings a) (length (flags_of a.slots)) b (marks_seen c.args.opt-filter) refl (sym c.in-ok-check-batch.ensures) in
-    obeys_from_held _ g.met.S.ValueState.lawful g.met.O.RowOrder.lawful a _ _ _ _ (made_same g.S.GroupTable.entries g.S.GroupTable.settings g.O.GroupTable.entries g.O.GroupTable.settings a c.grow.new.self c.in-err-grow.ensures.made)
-    (λ ws h. absurd (never_short g.S.GroupTable.entries g.S.GroupTable.settings g.O.GroupTable.entries g.O.GroupTable.settings a b (marks_seen c.args.opt-filter) no_outputs p c.in-err-grow.ensures.after ws h))
+    let b = batch_of c.args.values c.args.orderings c.args.count c.args.group_indices.now c.args.total_num_groups in
+    let p = passed (g.S.GroupTable.settings a.state) (made_of g.S.GroupTable.settings g.O.GroupTable.settings a) (length (flags_of a.slots)) b (marks_seen c.args.opt_filter) refl (sym c.in_ok-check_batch.ensures) in
+    obeys_from_held _ g.met.S.ValueState.lawful g.met.O.RowOrder.lawful a _ _ _ _ (made_same g.S.GroupTable.entries g.S.GroupTable.settings g.O.GroupTable.entries g.O.GroupTable.settings a c.grow.new.self c.in_err-grow.ensures.made)
+    (λ ws h. absurd (never_short g.S.GroupTable.entries g.S.GroupTable.settings g.O.GroupTable.entries g.O.GroupTable.settings a b (marks_seen c.args.opt_filter) no_outputs p c.in_err-grow.ensures.after ws h))
 
-pub get-filtered-extreme-of-each-group-requires : goal.get-filtered-extreme-of-each-group-requires
-get-filtered-extreme-of-each-group-requires g c =
+pub get_filtered_extreme_of_each_group-requires : goal.get_filtered_extreme_of_each_group-requires
+get_filtered_extreme_of_each_group-requires g c =
     let a = c.args.self.now in
-    let p = passed (g.S.GroupTable.settings a.state) (made_of g.S.GroupTable.settings g.O.GroupTable.settings a) (length (flags_of a.slots)) (batch_of c.args.values c.args.orderings c.args.count c.args.group-indices.now c.args.total-num-groups) (marks_seen c.args.opt-filter) refl (sym c.in-ok-check-batch.ensures) in
+    let p = passed (g.S.GroupTable.settings a.state) (made_of g.S.GroupTable.settings g.O.GroupTable.settings a) (length (flags_of a.slots)) (batch_of c.args.values c.args.orderings c.args.count c.args.group_indices.now c.args.total_num_groups) (marks_seen c.args.opt_filter) refl (sym c.in_ok-check_batch.ensures) in
     record {
-      taken = λ r h. ap (λ x. key_refused x false (columns_seen c.args.orderings c.args.count) c.args.count (r ∷ [])) c.in-ok-grow.ensures.made.order ∙ p.keys r h;
+      taken = λ r h. ap (λ x. key_refused x false (columns_seen c.args.orderings c.args.count) c.args.count (r ∷ [])) c.in_ok-grow.ensures.made.order ∙ p.keys r h;
       within = λ k h. omega (arith, p.below k h, p.few);
     }
 
-pub take-winners-requires : goal.take-winners-requires
-take-winners-requires g c =
+pub take_winners-requires : goal.take_winners-requires
+take_winners-requires g c =
     let a = c.args.self.now in
     let es = g.S.GroupTable.entries in
     let ss = g.S.GroupTable.settings in
     let eo = g.O.GroupTable.entries in
     let so = g.O.GroupTable.settings in
     let u = c.grow.new.self in
-    let p = passed (ss a.state) (made_of ss so a) (length (flags_of a.slots)) (batch_of c.args.values c.args.orderings c.args.count c.args.group-indices.now c.args.total-num-groups) (marks_seen c.args.opt-filter) refl (sym c.in-ok-check-batch.ensures) in
-    let made = c.in-ok-grow.ensures.made in
-    let grew = c.in-ok-grow.ensures.after in
+    let p = passed (ss a.state) (made_of ss so a) (length (flags_of a.slots)) (batch_of c.args.values c.args.orderings c.args.count c.args.group_indices.now c.args.total_num_groups) (marks_seen c.args.opt_filter) refl (sym c.in_ok-check_batch.ensures) in
+    let made = c.in_ok-grow.ensures.made in
+    let grew = c.in_ok-grow.ensures.after in
     let t = table (flags_of a.slots) (es a.state) (eo a.order) in
     let w = table (flags_of u.slots) (es u.state) (eo u.order) in
     record {
-      taken = λ k r lt e. ap (λ x. key_refused x false (columns_seen c.args.orderings c.args.count) c.args.count (r ∷ [])) made.order ∙ p.keys r ((c.in-ok-best.ensures k).among r e);
-      fits = λ k r lt e. ap (λ x. cell_refused x false (column_seen c.args.values) r) made.state ∙ p.cells r ((c.in-ok-best.ensures k).among r e);
+      taken = λ k r lt e. ap (λ x. key_refused x false (columns_seen c.args.orderings c.args.count) c.args.count (r ∷ [])) made.order ∙ p.keys r ((c.in_ok-best.ensures k).among r e);
+      fits = λ k r lt e. ap (λ x. cell_refused x false (column_seen c.args.values) r) made.state ∙ p.cells r ((c.in_ok-best.ensures k).among r e);
       few = p.few;
-      marks = omega (arith, grown_flags es ss eo so _ _ c.args.total-num-groups t w p.room grew);
-      valued = omega (arith, grown_cells es ss eo so _ _ c.args.total-num-groups t w grew);
-      keyed = omega (arith, grown_keys es ss eo so _ _ c.args.total-num-groups t w grew);
+      marks = omega (arith, grown_flags es ss eo so _ _ c.args.total_num_groups t w p.room grew);
+      valued = omega (arith, grown_cells es ss eo so _ _ c.args.total_num_groups t w grew);
+      keyed = omega (arith, grown_keys es ss eo so _ _ c.args.total_num_groups t w grew);
     }
 
 pub returns : goal.returns
@@ -72,8 +72,8 @@ returns g c =
     let eo = g.O.GroupTable.entries in
     let so = g.O.GroupTable.settings in
     obeys_from_held _ g.met.S.ValueState.lawful g.met.O.RowOrder.lawful a _ _ _ _
-    (made_same es ss eo so a c.take-winners.new.self (made_on es ss eo so a c.grow.new.self c.take-winners.new.self c.in-ok-grow.ensures.made c.take-winners.ensures.made))
-    (finishes es ss eo so a c.grow.new.self c.take-winners.new.self (batch_of c.args.values c.args.orderings c.args.count c.args.group-indices.now c.args.total-num-groups) (marks_seen c.args.opt-filter) no_outputs
-    (record { of_state = g.met.S.ValueState.lawful a.state; of_order = g.met.O.RowOrder.lawful a.order }) (row_of c.in-ok-best.best)
-    (sym c.in-ok-check-batch.ensures) c.in-ok-grow.ensures.after c.in-ok-grow.ensures.made c.take-winners.ensures.made c.in-ok-best.ensures c.take-winners.ensures.after
-    _ (ap batch_seen c.take-winners.ensures.fine))
+    (made_same es ss eo so a c.take_winners.new.self (made_on es ss eo so a c.grow.new.self c.take_winners.new.self c.in_ok-grow.ensures.made c.take_winners.ensures.made))
+    (finishes es ss eo so a c.grow.new.self c.take_winners.new.self (batch_of c.args.values c.args.orderings c.args.count c.args.group_indices.now c.args.total_num_groups) (marks_seen c.args.opt_filter) no_outputs
+    (record { of_state = g.met.S.ValueState.lawful a.state; of_order = g.met.O.RowOrder.lawful a.order }) (row_of c.in_ok-best.best)
+    (sym c.in_ok-check_batch.ensures) c.in_ok-grow.ensures.after c.in_ok-grow.ensures.made c.take_winners.ensures.made c.in_ok-best.ensures c.take_winners.ensures.after
+    _ (ap batch_seen c.take_winners.ensures.fine))

@@ -4,7 +4,7 @@ use Rattle.column.specs.Cells.{number_cell}
 use Rattle.layout.specs.Written.{parts_seen}
 use Rattle.layout.proofs.Contents.{numbers_fit, there_map, number_there}
 use Rattle.layout.proofs.Output.put_numbers.Goals as goal
-use Rattle.layout.proofs.Output.put_numbers.Goals.{then-cells-self-via-then-cells-self, then-cells-self-via-else-cells-self+then-bytes-for-self}
+use Rattle.layout.proofs.Output.put_numbers.Goals.{then-cells-self-via-then-cells-self, then-cells-self-via-else-cells-self+then-bytes_for-self}
 
 pub returns-then-cells-self : goal.returns-then-cells-self
 returns-then-cells-self c =
@@ -13,7 +13,7 @@ returns-then-cells-self c =
       answer =
           elim c.then-cells-self.branch [
             | then-cells-self-via-then-cells-self w ↦ grind (arith, nat_tests)
-            | then-cells-self-via-else-cells-self+then-bytes-for-self w ↦ grind (arith, nat_tests)
+            | then-cells-self-via-else-cells-self+then-bytes_for-self w ↦ grind (arith, nat_tests)
           ];
       after = refl;
     }

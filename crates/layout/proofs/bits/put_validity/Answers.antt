@@ -6,7 +6,7 @@ use Rattle.layout.proofs.bits.put_validity.Goals as goal
 
 pub loop-j-preserved : goal.loop-j-preserved
 loop-j-preserved g c =
-    let e = over_counted (byte_at (map is_some c.args.cells.now)) c.args.out.now c.loop-j.j c.byte-of.result (omega arith) c.byte-of.ensures in cc
+    let e = over_counted (byte_at (map is_some c.args.cells.now)) c.args.out.now c.loop-j.j c.byte_of.result (omega arith) c.byte_of.ensures in cc
 
 pub returns : goal.returns
 returns g c =

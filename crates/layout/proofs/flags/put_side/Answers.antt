@@ -6,7 +6,7 @@ use Rattle.layout.proofs.flags.put_side.Goals as goal
 
 pub loop-j-preserved : goal.loop-j-preserved
 loop-j-preserved g c =
-    let e = over_counted (byte_at (sides c.args.side (g.F.FlagSource.shows c.args.flags.now) c.args.rows)) c.args.out.now c.loop-j.j c.flag-byte.result (omega arith) c.flag-byte.ensures in cc
+    let e = over_counted (byte_at (sides c.args.side (g.F.FlagSource.shows c.args.flags.now) c.args.rows)) c.args.out.now c.loop-j.j c.flag_byte.result (omega arith) c.flag_byte.ensures in cc
 
 pub returns : goal.returns
 returns g c =

@@ -9,4 +9,4 @@ pub returns-in-Some : goal.returns-in-Some
 unfolding number_bytes
 returns-in-Some c =
     let f : SFits w64 c.in-Some.n = search rules in
-    c.to-le-bytes.ensures ∙ word_bytes _ ∙ ap (λ z. bytes_of 8 (of_z w64 z)) (to_z-of_z w64 c.in-Some.n f) ∙ sym (ap (λ o. number_content (number_cell o)) c.in-Some.is)
+    c.to_le_bytes.ensures ∙ word_bytes _ ∙ ap (λ z. bytes_of 8 (of_z w64 z)) (to_z-of_z w64 c.in-Some.n f) ∙ sym (ap (λ o. number_content (number_cell o)) c.in-Some.is)

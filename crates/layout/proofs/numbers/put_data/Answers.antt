@@ -10,7 +10,7 @@ pub loop-i-preserved : goal.loop-i-preserved
 loop-i-preserved c =
     let i = c.loop-i.i in
     let cs = map number_cell c.args.cells.now in
-    let ys = c.copy-from-slice.new.self in
+    let ys = c.copy_from_slice.new.self in
     let h : i < length cs = simp length-map (omega arith) in
     let d = get_or-map number_cell c.args.cells.now i None null (omega arith) in
     let y : ys ≡ number_content (get_or cs i null) = cc in

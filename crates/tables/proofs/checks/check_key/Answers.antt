@@ -8,8 +8,8 @@ returns-then-count-kinds c = search (rules, key_is)
 pub returns-then-out : goal.returns-then-out
 returns-then-out c = search (rules, key_is)
 
-pub returns-then-other-kinds : goal.returns-then-other-kinds
-returns-then-other-kinds c = search (rules, key_is)
+pub returns-then-other_kinds : goal.returns-then-other_kinds
+returns-then-other_kinds c = search (rules, key_is)
 
 pub returns-then-past : goal.returns-then-past
 returns-then-past c = search (rules, key_is)

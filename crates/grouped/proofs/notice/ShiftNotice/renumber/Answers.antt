@@ -10,7 +10,7 @@ loop-group-preserved c =
     let ys = c.loop-group.«open» in
     let i = c.loop-group.group_index in
     let lt : i < length ys = omega arith in
-    ap (set ys i) c.renumber-one.ensures ∙ map_over_more f c.args.«open».now ys i (get_or ys i 0) (omega arith) c.loop-group.invariant (get_or_default ys i 0 _ lt)
+    ap (set ys i) c.renumber_one.ensures ∙ map_over_more f c.args.«open».now ys i (get_or ys i 0) (omega arith) c.loop-group.invariant (get_or_default ys i 0 _ lt)
 
 pub returns : goal.returns
 returns c =

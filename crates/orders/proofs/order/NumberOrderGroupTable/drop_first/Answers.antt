@@ -15,21 +15,21 @@ returns-in-Err c =
     = ap (λ k. dropping k c.args.n) (held_long _ s.keys s.len (omega arith)) ∙ declined _ _ _ c.in-Err.ensures in
     record { answer = answer_some _ _ _ (ap (option_map order.Table) e); after = refused_same _ _ _ _ e; kept = refl }
 
-pub rotate-left-requires : goal.rotate-left-requires
-rotate-left-requires c = let h = drop_within _ _ (passed _ _ _ c.in-default.ensures) in search rules
+pub rotate_left-requires : goal.rotate_left-requires
+rotate_left-requires c = let h = drop_within _ _ (passed _ _ _ c.in_default.ensures) in search rules
 
 pub overflow-sub-self : goal.overflow-sub-self
-overflow-sub-self c = drop_within _ _ (passed _ _ _ c.in-default.ensures)
+overflow-sub-self c = drop_within _ _ (passed _ _ _ c.in_default.ensures)
 
 pub returns : goal.returns
 returns c =
     let s = c.args.self.now in
-    let p = passed _ _ _ c.in-default.ensures in
+    let p = passed _ _ _ c.in_default.ensures in
     let e : dropping (length (order_entries s)) c.args.n ≡ None = ap (λ k. dropping k c.args.n) (held_long _ s.keys s.len (omega arith)) ∙ p in
-    let a = c.rotate-left.ensures.after in
+    let a = c.rotate_left.ensures.after in
     record {
       answer = answer_none _ _ (ap (option_map order.Table) e);
-      after = held_dropped (λ k. map number_cell (take s.count k)) s.keys c.rotate-left.new.self _ s.len c.args.n (drop_within _ _ p) (omega arith) (rw (let z : s.len - 0 ≡ s.len = omega arith in z) at a) ∙ passed_new _ _ _ e;
+      after = held_dropped (λ k. map number_cell (take s.count k)) s.keys c.rotate_left.new.self _ s.len c.args.n (drop_within _ _ p) (omega arith) (rw (let z : s.len - 0 ≡ s.len = omega arith in z) at a) ∙ passed_new _ _ _ e;
       kept = refl;
     }
 
@@ -37,5 +37,5 @@ pub invariant-of-self : goal.invariant-of-self
 invariant-of-self c =
     let s = c.args.self.now in
     let z : s.len - 0 ≡ s.len = omega arith in
-    let b = c.rotate-left.ensures.len in
-    (s.sortings, (s.one, (s.three, (rw z (front_whole s.keys c.rotate-left.new.self s.len (omega arith) (rw z at b) ∙ s.full), (omega arith, tt)))))
+    let b = c.rotate_left.ensures.len in
+    (s.sortings, (s.one, (s.three, (rw z (front_whole s.keys c.rotate_left.new.self s.len (omega arith) (rw z at b) ∙ s.full), (omega arith, tt)))))

@@ -18,10 +18,10 @@ returns-in-Err c =
     record { answer = answer_some _ _ _ (ap (option_map order.Table) e); after = refused_same _ _ _ _ e; kept = refl }
 
 pub offset-bounds-self-i : goal.offset-bounds-self-i
-offset-bounds-self-i c = let w = grow_within _ _ (passed _ _ _ c.in-default.ensures) in omega arith
+offset-bounds-self-i c = let w = grow_within _ _ (passed _ _ _ c.in_default.ensures) in omega arith
 
 pub bounds-self-i : goal.bounds-self-i
-bounds-self-i c = let w = grow_within _ _ (passed _ _ _ c.in-default.ensures) in omega arith
+bounds-self-i c = let w = grow_within _ _ (passed _ _ _ c.in_default.ensures) in omega arith
 
 pub loop-i-init : goal.loop-i-init
 loop-i-init c = (refl, refl, refl, grown_none c.args.self.now.keys (None ∷ None ∷ None ∷ []) c.args.self.now.len)
@@ -29,16 +29,16 @@ loop-i-init c = (refl, refl, refl, grown_none c.args.self.now.keys (None ∷ Non
 pub loop-i-preserved : goal.loop-i-preserved
 loop-i-preserved c =
     let s = c.args.self.now in
-    let w = grow_within _ _ (passed _ _ _ c.in-default.ensures) in
+    let w = grow_within _ _ (passed _ _ _ c.in_default.ensures) in
     (c.loop-i.invariant.0, c.loop-i.invariant.1, c.loop-i.invariant.2, grown_next s.keys c.loop-i.self.keys (None ∷ None ∷ None ∷ []) s.len c.loop-i.i (omega arith) (omega arith) c.loop-i.invariant.3)
 
 pub invariant-of-self-2 : goal.invariant-of-self-2
-invariant-of-self-2 c = let w = grow_within _ _ (passed _ _ _ c.in-default.ensures) in let o = c.loop-i.self in (o.sortings, (o.one, (o.three, (o.full, (w.0, tt)))))
+invariant-of-self-2 c = let w = grow_within _ _ (passed _ _ _ c.in_default.ensures) in let o = c.loop-i.self in (o.sortings, (o.one, (o.three, (o.full, (w.0, tt)))))
 
 pub returns : goal.returns
 returns c =
     let s = c.args.self.now in
-    let p = passed _ _ _ c.in-default.ensures in
+    let p = passed _ _ _ c.in_default.ensures in
     let w = grow_within _ _ p in
     let i : c.loop-i.i ≡ c.args.total = omega arith in
     let e : growing (length (order_entries s)) c.args.total ≡ None = ap (λ k. growing k c.args.total) (held_long _ s.keys s.len (omega arith)) ∙ p in

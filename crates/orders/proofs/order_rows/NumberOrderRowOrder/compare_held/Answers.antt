@@ -11,24 +11,24 @@ use Rattle.orders.proofs.Deciding.{held_checked, key_read}
 use Rattle.orders.proofs.Verdicts.{verdict_lex}
 use Rattle.orders.proofs.order_rows.NumberOrderRowOrder.compare_held.Goals as goal
 
-pub returns-in-err-check-key : goal.returns-in-err-check-key
-returns-in-err-check-key c =
-    let e = held_checked c.args.self.now c.args.group-idx (columns_seen c.args.columns c.args.count) c.args.count c.args.row in
-    exits _ _ _ _ _ c.from-residual.ensures.1 (c.in-err-check-key.ensures ∙ ap (λ o. outcome o (tt {0})) (sym e))
+pub returns-in_err-check_key : goal.returns-in_err-check_key
+returns-in_err-check_key c =
+    let e = held_checked c.args.self.now c.args.group_idx (columns_seen c.args.columns c.args.count) c.args.count c.args.row in
+    exits _ _ _ _ _ c.from_residual.ensures.1 (c.in_err-check_key.ensures ∙ ap (λ o. outcome o (tt {0})) (sym e))
 
 pub compare-requires : goal.compare-requires
 compare-requires c =
     let o = c.args.self.now in
     let l : length c.args.columns ≡ 3 = search rules in
-    let p = passed _ _ _ c.in-ok-check-key.ensures in
-    leb-false _ _ (key_read o (leb o.len c.args.group-idx) c.args.columns c.args.count (c.args.row ∷ c.args.row ∷ []) l p).held
+    let p = passed _ _ _ c.in_ok-check_key.ensures in
+    leb-false _ _ (key_read o (leb o.len c.args.group_idx) c.args.columns c.args.count (c.args.row ∷ c.args.row ∷ []) l p).held
 
 pub returns : goal.returns
 returns c =
     let o = c.args.self.now in
-    let g = c.args.group-idx in
+    let g = c.args.group_idx in
     let l : length c.args.columns ≡ 3 = search rules in
-    let p = passed _ _ _ c.in-ok-check-key.ensures in
+    let p = passed _ _ _ c.in_ok-check_key.ensures in
     let e = held_checked o g (columns_seen c.args.columns c.args.count) c.args.count c.args.row in
     let k = key_read o (leb o.len g) c.args.columns c.args.count (c.args.row ∷ c.args.row ∷ []) l p in
     let h : g < o.len = leb-false _ _ k.held in

@@ -8,15 +8,15 @@ use Rattle.orders.proofs.Laid.{order_laid, order_within}
 use Rattle.orders.proofs.order_rows.NumberOrderRowOrder.key_space.Goals as goal
 
 pub overflow-add-result : goal.overflow-add-result
-overflow-add-result c = let w = order_within c.args.self.now c.args.named c.args.n (passed _ _ _ c.in-ok-check-column.ensures) in omega arith
+overflow-add-result c = let w = order_within c.args.self.now c.args.named c.args.n (passed _ _ _ c.in_ok-check_column.ensures) in omega arith
 
 pub overflow-mul-result : goal.overflow-mul-result
-overflow-mul-result c = let w = order_within c.args.self.now c.args.named c.args.n (passed _ _ _ c.in-ok-check-column.ensures) in omega arith
+overflow-mul-result c = let w = order_within c.args.self.now c.args.named c.args.n (passed _ _ _ c.in_ok-check_column.ensures) in omega arith
 
 pub returns : goal.returns
 returns c =
     let o = c.args.self.now in
-    let p = passed _ _ _ c.in-ok-check-column.ensures in
+    let p = passed _ _ _ c.in_ok-check_column.ensures in
     let w = order_within o c.args.named c.args.n p in
     ap Ok (numbers_space (column_numbers c.args.named (take c.args.n o.keys)) c.args.n (held_long (λ k. get_or k c.args.named None) o.keys c.args.n (omega arith))
     ∙ ap space_of (sym (order_laid (take o.count o.sorts) o.count c.args.named o.keys o.len c.args.n w.0 w.1)))

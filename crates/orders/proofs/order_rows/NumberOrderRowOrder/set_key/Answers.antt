@@ -9,34 +9,34 @@ use Rattle.orders.specs.Held.{order_entries}
 use Rattle.orders.proofs.Deciding.{held_checked, key_read, key_stored}
 use Rattle.orders.proofs.order_rows.NumberOrderRowOrder.set_key.Goals as goal
 
-pub returns-in-err-check-key : goal.returns-in-err-check-key
-returns-in-err-check-key c =
-    let d = c.in-err-check-key.ensures in
-    let e = held_checked c.args.self.now c.args.group-idx (columns_seen c.args.columns c.args.count) c.args.count c.args.row in
-    record { answer = exits _ _ _ _ _ c.from-residual.ensures.1 (d ∙ ap (λ o. outcome o (tt {0})) (sym e)); after = refused_same _ _ _ _ (e ∙ declined _ _ _ d); kept = refl }
+pub returns-in_err-check_key : goal.returns-in_err-check_key
+returns-in_err-check_key c =
+    let d = c.in_err-check_key.ensures in
+    let e = held_checked c.args.self.now c.args.group_idx (columns_seen c.args.columns c.args.count) c.args.count c.args.row in
+    record { answer = exits _ _ _ _ _ c.from_residual.ensures.1 (d ∙ ap (λ o. outcome o (tt {0})) (sym e)); after = refused_same _ _ _ _ (e ∙ declined _ _ _ d); kept = refl }
 
-pub offset-bounds-self-group-idx : goal.offset-bounds-self-group-idx
-offset-bounds-self-group-idx c =
+pub offset-bounds-self-group_idx : goal.offset-bounds-self-group_idx
+offset-bounds-self-group_idx c =
     let o = c.args.self.now in
     let l : length c.args.columns ≡ 3 = search rules in
-    let p = passed _ _ _ c.in-ok-check-key.ensures in
-    let h : c.args.group-idx < o.len = leb-false _ _ (key_read o (leb o.len c.args.group-idx) c.args.columns c.args.count (c.args.row ∷ c.args.row ∷ []) l p).held in
+    let p = passed _ _ _ c.in_ok-check_key.ensures in
+    let h : c.args.group_idx < o.len = leb-false _ _ (key_read o (leb o.len c.args.group_idx) c.args.columns c.args.count (c.args.row ∷ c.args.row ∷ []) l p).held in
     omega arith
 
-pub bounds-self-group-idx : goal.bounds-self-group-idx
-bounds-self-group-idx c =
+pub bounds-self-group_idx : goal.bounds-self-group_idx
+bounds-self-group_idx c =
     let o = c.args.self.now in
     let l : length c.args.columns ≡ 3 = search rules in
-    let p = passed _ _ _ c.in-ok-check-key.ensures in
-    let h : c.args.group-idx < o.len = leb-false _ _ (key_read o (leb o.len c.args.group-idx) c.args.columns c.args.count (c.args.row ∷ c.args.row ∷ []) l p).held in
+    let p = passed _ _ _ c.in_ok-check_key.ensures in
+    let h : c.args.group_idx < o.len = leb-false _ _ (key_read o (leb o.len c.args.group_idx) c.args.columns c.args.count (c.args.row ∷ c.args.row ∷ []) l p).held in
     omega arith
 
 pub returns : goal.returns
 returns c =
     let o = c.args.self.now in
-    let g = c.args.group-idx in
+    let g = c.args.group_idx in
     let l : length c.args.columns ≡ 3 = search rules in
-    let p = passed _ _ _ c.in-ok-check-key.ensures in
+    let p = passed _ _ _ c.in_ok-check_key.ensures in
     let e = held_checked o g (columns_seen c.args.columns c.args.count) c.args.count c.args.row in
     let k = key_read o (leb o.len g) c.args.columns c.args.count (c.args.row ∷ c.args.row ∷ []) l p in
     record {

@@ -26,5 +26,5 @@ returns c =
     let o = c.args.self.now in
     let l = held_long (λ s. numbers) o.sorts o.count (omega arith) in
     let e : dropping (length (order_entries o)) c.args.n ≡ None
-    = ap (λ k. dropping k c.args.n) (held_long _ o.keys o.len (omega arith)) ∙ passed _ _ _ c.in-default.ensures in
+    = ap (λ k. dropping k c.args.n) (held_long _ o.keys o.len (omega arith)) ∙ passed _ _ _ c.in_default.ensures in
     answer_none _ _ (measuring_fine (order_settings o) (order_entries o) c.args.named c.args.n (omega arith) e)

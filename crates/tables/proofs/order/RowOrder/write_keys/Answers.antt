@@ -12,19 +12,19 @@ returns-then-columns-eq0 g c =
     let a = parts_seen c.args.out.now.first in
     let b = parts_seen c.args.out.now.second in
     let d = parts_seen c.args.out.now.third in
-    let w = passed _ _ _ c.in-ok-keys-fit.ensures in
+    let w = passed _ _ _ c.in_ok-keys_fit.ensures in
     record { answer = answer_none _ _ w; after = all_put s es c.args.n a b d _ _ _ w (put_none s es c.args.n 0 a (omega arith)) (put_none s es c.args.n 1 b (omega arith)) (put_none s es c.args.n 2 d (omega arith)) }
 
-pub returns-in-err-write-key : goal.returns-in-err-write-key
-returns-in-err-write-key g c =
+pub returns-in_err-write_key : goal.returns-in_err-write_key
+returns-in_err-write_key g c =
     let s = g.Self.GroupTable.settings c.args.self.now in
     let es = g.Self.GroupTable.entries c.args.self.now in
     let a = parts_seen c.args.out.now.first in
     let b = parts_seen c.args.out.now.second in
     let d = parts_seen c.args.out.now.third in
-    let w = passed _ _ _ c.in-ok-keys-fit.ensures in
+    let w = passed _ _ _ c.in_ok-keys_fit.ensures in
     let t = taken s es c.args.n a b d w in
-    absurd (writing_exit s es c.args.n 0 a _ (omega arith) t.held t.first c.in-err-write-key.ensures.answer)
+    absurd (writing_exit s es c.args.n 0 a _ (omega arith) t.held t.first c.in_err-write_key.ensures.answer)
 
 pub returns-then-columns-eq1 : goal.returns-then-columns-eq1
 returns-then-columns-eq1 g c =
@@ -33,21 +33,21 @@ returns-then-columns-eq1 g c =
     let a = parts_seen c.args.out.now.first in
     let b = parts_seen c.args.out.now.second in
     let d = parts_seen c.args.out.now.third in
-    let w = passed _ _ _ c.in-ok-keys-fit.ensures in
+    let w = passed _ _ _ c.in_ok-keys_fit.ensures in
     let t = taken s es c.args.n a b d w in
-    let p = put_written s es c.args.n 0 a _ (omega arith) t.held t.first c.write-key.ensures.after in
+    let p = put_written s es c.args.n 0 a _ (omega arith) t.held t.first c.write_key.ensures.after in
     record { answer = answer_none _ _ w; after = all_put s es c.args.n a b d _ _ _ w p (put_none s es c.args.n 1 b (omega arith)) (put_none s es c.args.n 2 d (omega arith)) }
 
-pub returns-in-err-write-key-2 : goal.returns-in-err-write-key-2
-returns-in-err-write-key-2 g c =
+pub returns-in_err-write_key-2 : goal.returns-in_err-write_key-2
+returns-in_err-write_key-2 g c =
     let s = g.Self.GroupTable.settings c.args.self.now in
     let es = g.Self.GroupTable.entries c.args.self.now in
     let a = parts_seen c.args.out.now.first in
     let b = parts_seen c.args.out.now.second in
     let d = parts_seen c.args.out.now.third in
-    let w = passed _ _ _ c.in-ok-keys-fit.ensures in
+    let w = passed _ _ _ c.in_ok-keys_fit.ensures in
     let t = taken s es c.args.n a b d w in
-    absurd (writing_exit s es c.args.n 1 b _ (omega arith) t.held t.second c.in-err-write-key-2.ensures.answer)
+    absurd (writing_exit s es c.args.n 1 b _ (omega arith) t.held t.second c.in_err-write_key-2.ensures.answer)
 
 pub returns-then-columns-eq2 : goal.returns-then-columns-eq2
 returns-then-columns-eq2 g c =
@@ -56,10 +56,10 @@ returns-then-columns-eq2 g c =
     let a = parts_seen c.args.out.now.first in
     let b = parts_seen c.args.out.now.second in
     let d = parts_seen c.args.out.now.third in
-    let w = passed _ _ _ c.in-ok-keys-fit.ensures in
+    let w = passed _ _ _ c.in_ok-keys_fit.ensures in
     let t = taken s es c.args.n a b d w in
-    let p = put_written s es c.args.n 0 a _ (omega arith) t.held t.first c.write-key.ensures.after in
-    let q = put_written s es c.args.n 1 b _ (omega arith) t.held t.second c.write-key-2.ensures.after in
+    let p = put_written s es c.args.n 0 a _ (omega arith) t.held t.first c.write_key.ensures.after in
+    let q = put_written s es c.args.n 1 b _ (omega arith) t.held t.second c.write_key-2.ensures.after in
     record { answer = answer_none _ _ w; after = all_put s es c.args.n a b d _ _ _ w p q (put_none s es c.args.n 2 d (omega arith)) }
 
 pub returns : goal.returns
@@ -69,10 +69,10 @@ returns g c =
     let a = parts_seen c.args.out.now.first in
     let b = parts_seen c.args.out.now.second in
     let d = parts_seen c.args.out.now.third in
-    let w = passed _ _ _ c.in-ok-keys-fit.ensures in
+    let w = passed _ _ _ c.in_ok-keys_fit.ensures in
     let t = taken s es c.args.n a b d w in
-    let p = put_written s es c.args.n 0 a _ (omega arith) t.held t.first c.write-key.ensures.after in
-    let q = put_written s es c.args.n 1 b _ (omega arith) t.held t.second c.write-key-2.ensures.after in
-    let r = put_written s es c.args.n 2 d _ (omega arith) t.held t.third c.write-key-3.ensures.after in
+    let p = put_written s es c.args.n 0 a _ (omega arith) t.held t.first c.write_key.ensures.after in
+    let q = put_written s es c.args.n 1 b _ (omega arith) t.held t.second c.write_key-2.ensures.after in
+    let r = put_written s es c.args.n 2 d _ (omega arith) t.held t.third c.write_key-3.ensures.after in
     let x = writing_fits s es c.args.n 2 d (omega arith) t.held t.third in
-    record { answer = c.write-key-3.ensures.answer ∙ ap (λ o. outcome o (tt {0})) (x ∙ sym w); after = all_put s es c.args.n a b d _ _ _ w p q r }
+    record { answer = c.write_key-3.ensures.answer ∙ ap (λ o. outcome o (tt {0})) (x ∙ sym w); after = all_put s es c.args.n a b d _ _ _ w p q r }

@@ -19,15 +19,15 @@ returns-in-Err c =
     answer_some _ _ _ (ap (option_map state.Table) e)
 
 pub overflow-add-result : goal.overflow-add-result
-overflow-add-result c = let h = drop_within _ _ (passed _ _ _ c.in-default.ensures) in omega arith
+overflow-add-result c = let h = drop_within _ _ (passed _ _ _ c.in_default.ensures) in omega arith
 
 pub overflow-mul-result : goal.overflow-mul-result
-overflow-mul-result c = let h = drop_within _ _ (passed _ _ _ c.in-default.ensures) in omega arith
+overflow-mul-result c = let h = drop_within _ _ (passed _ _ _ c.in_default.ensures) in omega arith
 
 pub returns : goal.returns
 returns c =
     let s = c.args.self.now in
-    let p = passed _ _ _ c.in-default.ensures in
+    let p = passed _ _ _ c.in_default.ensures in
     let h = drop_within _ _ p in
     let e : dropping (length (state_entries s)) c.args.n ≡ None = ap (λ k. dropping k c.args.n) (held_long _ s.cells s.len (omega arith)) ∙ p in
     let z : c.args.n - 0 ≡ c.args.n = omega arith in

@@ -5,4 +5,4 @@ use Rattle.values.proofs.Reading.{cell_short}
 use Rattle.values.proofs.state.NumberValueStateValueState.takes.Goals as goal
 
 pub returns : goal.returns
-returns c = c.check-cell.ensures ∙ ap (λ o. outcome o (tt {0})) (sym (cell_short false (column_seen c.args.column.now) c.args.row))
+returns c = c.check_cell.ensures ∙ ap (λ o. outcome o (tt {0})) (sym (cell_short false (column_seen c.args.column.now) c.args.row))

@@ -18,23 +18,23 @@ returns-in-Err c =
     let w = writing_fewer number_state (state_entries s) c.args.n (parts_seen c.args.out.now) e in
     record { answer = answer_some _ _ _ w; after = refused_same _ _ _ _ w }
 
-pub slice-bounds-put-numbers-end : goal.slice-bounds-put-numbers-end
-slice-bounds-put-numbers-end c = let h = drop_within _ _ (passed _ _ _ c.in-default.ensures) in search rules
+pub slice-bounds-put_numbers-end : goal.slice-bounds-put_numbers-end
+slice-bounds-put_numbers-end c = let h = drop_within _ _ (passed _ _ _ c.in_default.ensures) in search rules
 
-pub returns-then-not-put-numbers : goal.returns-then-not-put-numbers
-returns-then-not-put-numbers c =
+pub returns-then-not-put_numbers : goal.returns-then-not-put_numbers
+returns-then-not-put_numbers c =
     let s = c.args.self.now in
-    let p = passed _ _ _ c.in-default.ensures in
+    let p = passed _ _ _ c.in_default.ensures in
     let e = ap (λ k. dropping k c.args.n) (held_long _ s.cells s.len (omega arith)) ∙ p in
     let l = state_laid s.cells s.len c.args.n (drop_within _ _ p) in
-    let w = writing_short number_state (state_entries s) c.args.n (parts_seen c.args.out.now) e (ap (λ x. fits x (parts_seen c.args.out.now)) l ∙ sym c.if-not-put-numbers.ensures.answer) in
-    record { answer = answer_some _ _ _ w; after = c.if-not-put-numbers.ensures.after ∙ refused_same _ _ _ _ w }
+    let w = writing_short number_state (state_entries s) c.args.n (parts_seen c.args.out.now) e (ap (λ x. fits x (parts_seen c.args.out.now)) l ∙ sym c.if-not-put_numbers.ensures.answer) in
+    record { answer = answer_some _ _ _ w; after = c.if-not-put_numbers.ensures.after ∙ refused_same _ _ _ _ w }
 
 pub returns : goal.returns
 returns c =
     let s = c.args.self.now in
-    let p = passed _ _ _ c.in-default.ensures in
+    let p = passed _ _ _ c.in_default.ensures in
     let e = ap (λ k. dropping k c.args.n) (held_long _ s.cells s.len (omega arith)) ∙ p in
     let l = state_laid s.cells s.len c.args.n (drop_within _ _ p) in
-    let w = writing_fine number_state (state_entries s) c.args.n (parts_seen c.args.out.now) e (ap (λ x. fits x (parts_seen c.args.out.now)) l ∙ sym c.if-not-put-numbers.ensures.answer) in
-    record { answer = answer_none _ _ w; after = c.if-not-put-numbers.ensures.after ∙ ap (λ x. written x (parts_seen c.args.out.now)) (sym l) ∙ passed_new _ _ _ w }
+    let w = writing_fine number_state (state_entries s) c.args.n (parts_seen c.args.out.now) e (ap (λ x. fits x (parts_seen c.args.out.now)) l ∙ sym c.if-not-put_numbers.ensures.answer) in
+    record { answer = answer_none _ _ w; after = c.if-not-put_numbers.ensures.after ∙ ap (λ x. written x (parts_seen c.args.out.now)) (sym l) ∙ passed_new _ _ _ w }
