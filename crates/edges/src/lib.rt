@@ -1,7 +1,6 @@
 // The limits of the stage at their edges, tested on the real calls.
 #![tactic(auto)]
 
-
 #[cfg(test)]
 mod tests {
     use column::{BoolColumn, Column};
