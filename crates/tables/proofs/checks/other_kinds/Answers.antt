@@ -6,7 +6,7 @@ use Rattle.column.specs.declared.Kind.TheVariants.{Number}
 use Rattle.tables.specs.Refusals.{some_column, other_kind}
 use Rattle.tables.proofs.Walking.{column_next, column_end}
 use Rattle.tables.proofs.checks.other_kinds.Goals as goal
-use Rattle.tables.proofs.checks.other_kinds.Goals.{then_other, else-other}
+use Rattle.tables.proofs.checks.other_kinds.Goals.{then-other, else-other}
 
 pub loop-j-preserved : goal.loop-j-preserved
 loop-j-preserved c =
@@ -15,7 +15,7 @@ loop-j-preserved c =
     let k = get_or-map kind_seen c.args.kinds.now c.loop-j.j Number (kind_seen (get_or c.args.columns c.loop-j.j d).kind) (omega arith) in
     let p = other_kind (map kind_seen c.args.kinds.now) in
     let e : c.if-other.other ≡ (c.loop-j.other || other_kind (map kind_seen c.args.kinds.now) c.loop-j.j (column_seen (get_or c.args.columns c.loop-j.j d)))
-    = elim c.if-other.branch [ then_other w ↦ cc | else-other w ↦ cc ] in
+    = elim c.if-other.branch [ then-other w ↦ cc | else-other w ↦ cc ] in
     ap (λ b. b || some_column p (c.loop-j.j + 1) (drop (c.loop-j.j + 1) (columns_seen c.args.columns c.args.count))) e
     ∙ column_next p c.args.columns c.args.count c.loop-j.j d c.loop-j.other c.loop-j-test.true l
     ∙ c.loop-j.invariant
