@@ -46,8 +46,8 @@ returns-in_err-order_at g c =
       unspent = none_unspent _ _ c.from_residual-in_err-order_at.ensures.1;
     }
 
-pub overflow-cast-n : goal.overflow-cast-n
-overflow-cast-n g c = record { fits = omega (arith, c.if-n-self.false, c.args.self.now.slots.small) }
+pub overflow_cast-n : goal.overflow_cast-n
+overflow_cast-n g c = record { fits = omega (arith, c.if-n-self.false, c.args.self.now.slots.small) }
 
 pub returns : goal.returns
 returns g c =

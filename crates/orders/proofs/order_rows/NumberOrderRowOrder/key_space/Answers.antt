@@ -7,11 +7,11 @@ use Rattle.tables.proofs.Numbers.{numbers_space}
 use Rattle.orders.proofs.Laid.{order_laid, order_within}
 use Rattle.orders.proofs.order_rows.NumberOrderRowOrder.key_space.Goals as goal
 
-pub overflow-add-result : goal.overflow-add-result
-overflow-add-result c = let w = order_within c.args.self.now c.args.named c.args.n (passed _ _ _ c.in_ok-check_column.ensures) in omega arith
+pub overflow_add-result : goal.overflow_add-result
+overflow_add-result c = let w = order_within c.args.self.now c.args.named c.args.n (passed _ _ _ c.in_ok-check_column.ensures) in omega arith
 
-pub overflow-mul-result : goal.overflow-mul-result
-overflow-mul-result c = let w = order_within c.args.self.now c.args.named c.args.n (passed _ _ _ c.in_ok-check_column.ensures) in omega arith
+pub overflow_mul-result : goal.overflow_mul-result
+overflow_mul-result c = let w = order_within c.args.self.now c.args.named c.args.n (passed _ _ _ c.in_ok-check_column.ensures) in omega arith
 
 pub returns : goal.returns
 returns c =

@@ -15,8 +15,8 @@ returns-in_err-check_key c =
     let e = held_checked c.args.self.now c.args.group_idx (columns_seen c.args.columns c.args.count) c.args.count c.args.row in
     record { answer = exits _ _ _ _ _ c.from_residual.ensures.1 (d ∙ ap (λ o. outcome o (tt {0})) (sym e)); after = refused_same _ _ _ _ (e ∙ declined _ _ _ d); kept = refl }
 
-pub offset-bounds-self-group_idx : goal.offset-bounds-self-group_idx
-offset-bounds-self-group_idx c =
+pub offset_bounds-self-group_idx : goal.offset_bounds-self-group_idx
+offset_bounds-self-group_idx c =
     let o = c.args.self.now in
     let l : length c.args.columns ≡ 3 = search rules in
     let p = passed _ _ _ c.in_ok-check_key.ensures in

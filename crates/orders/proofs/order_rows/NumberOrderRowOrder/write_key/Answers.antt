@@ -16,8 +16,8 @@ returns-in_err-check_column c =
 pub key_column-column-requires : goal.key_column-column-requires
 key_column-column-requires c = order_within c.args.self.now c.args.named c.args.n (passed _ _ _ c.in_ok-check_column.ensures)
 
-pub slice-bounds-put_numbers-end : goal.slice-bounds-put_numbers-end
-slice-bounds-put_numbers-end c = let w = order_within c.args.self.now c.args.named c.args.n (passed _ _ _ c.in_ok-check_column.ensures) in search rules
+pub slice_bounds-put_numbers-end : goal.slice_bounds-put_numbers-end
+slice_bounds-put_numbers-end c = let w = order_within c.args.self.now c.args.named c.args.n (passed _ _ _ c.in_ok-check_column.ensures) in search rules
 
 pub returns-then-not-put_numbers : goal.returns-then-not-put_numbers
 returns-then-not-put_numbers c =

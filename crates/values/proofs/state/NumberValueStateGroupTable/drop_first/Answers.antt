@@ -18,8 +18,8 @@ returns-in-Err c =
 pub rotate_left-requires : goal.rotate_left-requires
 rotate_left-requires c = let h = drop_within _ _ (passed _ _ _ c.in_default.ensures) in search rules
 
-pub overflow-sub-self : goal.overflow-sub-self
-overflow-sub-self c = drop_within _ _ (passed _ _ _ c.in_default.ensures)
+pub overflow_sub-self : goal.overflow_sub-self
+overflow_sub-self c = drop_within _ _ (passed _ _ _ c.in_default.ensures)
 
 pub returns : goal.returns
 returns c =
@@ -33,9 +33,9 @@ returns c =
       kept = refl;
     }
 
-pub invariant-of-self : goal.invariant-of-self
-invariant-of-self c =
+pub invariant_of-self : goal.invariant_of-self
+invariant_of-self c =
     let s = c.args.self.now in
     let z : s.len - 0 ≡ s.len = omega arith in
     let b = c.rotate_left.ensures.len in
-    (rw z (front_whole s.cells c.rotate_left.new.self s.len (omega arith) (rw z at b) ∙ s.full), (omega arith, tt))
+    record { full = rw z (front_whole s.cells c.rotate_left.new.self s.len (omega arith) (rw z at b) ∙ s.full); few = omega arith }

@@ -15,8 +15,8 @@ returns-in-Err c =
     = ap (λ k. growing k c.args.total) (held_long _ s.cells s.len (omega arith)) ∙ declined _ _ _ c.in-Err.ensures in
     record { answer = answer_some _ _ _ (ap (option_map state.Table) e); after = refused_same _ _ _ _ e; kept = refl }
 
-pub offset-bounds-self-i : goal.offset-bounds-self-i
-offset-bounds-self-i c = let w = grow_within _ _ (passed _ _ _ c.in_default.ensures) in omega arith
+pub offset_bounds-self-i : goal.offset_bounds-self-i
+offset_bounds-self-i c = let w = grow_within _ _ (passed _ _ _ c.in_default.ensures) in omega arith
 
 pub bounds-self-i : goal.bounds-self-i
 bounds-self-i c = let w = grow_within _ _ (passed _ _ _ c.in_default.ensures) in omega arith
@@ -30,8 +30,8 @@ loop-i-preserved c =
     let w = grow_within _ _ (passed _ _ _ c.in_default.ensures) in
     (c.loop-i.invariant.0, grown_next s.cells c.loop-i.self.cells None s.len c.loop-i.i (omega arith) (omega arith) c.loop-i.invariant.1)
 
-pub invariant-of-self-2 : goal.invariant-of-self-2
-invariant-of-self-2 c = let w = grow_within _ _ (passed _ _ _ c.in_default.ensures) in (c.loop-i.self.full, (w.0, tt))
+pub invariant_of-self-2 : goal.invariant_of-self-2
+invariant_of-self-2 c = let w = grow_within _ _ (passed _ _ _ c.in_default.ensures) in record { full = c.loop-i.self.full; few = w.0 }
 
 pub returns : goal.returns
 returns c =

@@ -18,11 +18,11 @@ returns-in-Err c =
     = ap (λ k. dropping k c.args.n) (held_long _ s.cells s.len (omega arith)) ∙ declined _ _ _ c.in-Err.ensures in
     answer_some _ _ _ (ap (option_map state.Table) e)
 
-pub overflow-add-result : goal.overflow-add-result
-overflow-add-result c = let h = drop_within _ _ (passed _ _ _ c.in_default.ensures) in omega arith
+pub overflow_add-result : goal.overflow_add-result
+overflow_add-result c = let h = drop_within _ _ (passed _ _ _ c.in_default.ensures) in omega arith
 
-pub overflow-mul-result : goal.overflow-mul-result
-overflow-mul-result c = let h = drop_within _ _ (passed _ _ _ c.in_default.ensures) in omega arith
+pub overflow_mul-result : goal.overflow_mul-result
+overflow_mul-result c = let h = drop_within _ _ (passed _ _ _ c.in_default.ensures) in omega arith
 
 pub returns : goal.returns
 returns c =

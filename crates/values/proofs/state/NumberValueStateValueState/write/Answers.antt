@@ -18,8 +18,8 @@ returns-in-Err c =
     let w = writing_fewer number_state (state_entries s) c.args.n (parts_seen c.args.out.now) e in
     record { answer = answer_some _ _ _ w; after = refused_same _ _ _ _ w }
 
-pub slice-bounds-put_numbers-end : goal.slice-bounds-put_numbers-end
-slice-bounds-put_numbers-end c = let h = drop_within _ _ (passed _ _ _ c.in_default.ensures) in search rules
+pub slice_bounds-put_numbers-end : goal.slice_bounds-put_numbers-end
+slice_bounds-put_numbers-end c = let h = drop_within _ _ (passed _ _ _ c.in_default.ensures) in search rules
 
 pub returns-then-not-put_numbers : goal.returns-then-not-put_numbers
 returns-then-not-put_numbers c =
