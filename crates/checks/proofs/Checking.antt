@@ -17,10 +17,10 @@ use Rattle.column.specs.Seen.{columns_seen, column_seen}
 use Rattle.tables.specs.Meaning.{Settings, state_of}
 use Rattle.tables.specs.Refusals.{unread, cell_refused, named_unread, named_refused, other_kind}
 use Rattle.book.specs.Batches.{Given, Batch, order_columns}
-use Rattle.book.specs.Declines.{at_row, at_column, own, cols, kind, rows, long, kind_check, rows_check, batch_declined}
+use Rattle.book.specs.Declines.{at_row, at_column, own, cols, kind, rows, long, rows_check, batch_declined}
 use Rattle.book.specs.Winners.{Making}
 use Rattle.faults.specs.Reported.{state_placed, order_placed, declined_seen, fault_seen}
-use Rattle.checks.specs.Seen.{given_seen, made_with, reading}
+use Rattle.checks.specs.Seen.{given_seen, made_with, reading, kind_check}
 
 -- Reading a lower layer's refusal
 

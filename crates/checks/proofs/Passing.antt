@@ -8,7 +8,8 @@ use Rattle.tables.specs.Meaning.{Settings, StateMeaning, state_of}
 use Rattle.tables.specs.Refusals.{cell_refused, key_unfit, key_refused, cols_fit, some_column, other_kind, past_column, untaken}
 use Rattle.book.specs.Winners.{Making}
 use Rattle.book.specs.Batches.{Given, Batch, order_columns, every_row}
-use Rattle.book.specs.Declines.{at_row, at_column, order_column, cols, kind, long, kind_check, rows_check, long_check, batch_checks, batch_declined}
+use Rattle.book.specs.Declines.{at_row, at_column, order_column, cols, kind, long, rows_check, batch_checks, batch_declined}
+use Rattle.checks.specs.Seen.{kind_check, long_check}
 use Rattle.checks.proofs.Checking.{refuse_none, kind_parts, rows_parts, rows_same, first_two_none, none_hold}
 
 not-false : (b : Bool) → not b ≡ false → b ≡ true

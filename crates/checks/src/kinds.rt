@@ -5,9 +5,9 @@ ghost use Rattle.column.specs.Checks.{refuse};
 ghost use Rattle.column.specs.Faults.{fault, KIND, COLS, in_state};
 ghost use Rattle.column.specs.Seen.{column_seen, columns_seen};
 ghost use Rattle.tables.specs.Meaning.{state_of};
-ghost use Rattle.book.specs.Declines.{at_column, own as own_fault, kind, kind_check};
+ghost use Rattle.book.specs.Declines.{at_column, own as own_fault, kind};
 ghost use Rattle.faults.specs.Reported.{declined_seen};
-ghost use Rattle.checks.specs.Seen.{given_seen, reading};
+ghost use Rattle.checks.specs.Seen.{given_seen, reading, kind_check};
 
 use crate::rows::column_number;
 use column::Column;

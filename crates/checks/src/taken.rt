@@ -7,9 +7,9 @@ ghost use Rattle.column.specs.Faults.{fault, LONG, in_state, in_order};
 ghost use Rattle.column.specs.Seen.{column_seen, columns_seen};
 ghost use Rattle.tables.specs.Meaning.{state_of};
 ghost use Rattle.tables.specs.Refusals.{other_kind};
-ghost use Rattle.book.specs.Declines.{at_row, at_column, order_column, kind, kind_check, rows_check, long, long_check};
+ghost use Rattle.book.specs.Declines.{at_row, at_column, order_column, kind, rows_check, long};
 ghost use Rattle.faults.specs.Reported.{declined_seen};
-ghost use Rattle.checks.specs.Seen.{given_seen, reading};
+ghost use Rattle.checks.specs.Seen.{given_seen, reading, kind_check, long_check};
 
 use crate::rows::column_number;
 use column::Column;

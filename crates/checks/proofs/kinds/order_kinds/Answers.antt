@@ -1,5 +1,5 @@
+use Rattle.checks.specs.Seen.{kind_check}
 use Rattle.std.proofs.Common.{sym, ◌∙◌, arith}
-use Rattle.book.specs.Declines.{kind_check}
 use Rattle.checks.proofs.Checking.{column_done, column_here, column_next, exits}
 use Rattle.checks.proofs.kinds.order_kinds.Goals as goal
 

@@ -1,6 +1,7 @@
 use Rattle.std.proofs.Common.{◌≡◌, drop}
 use Rattle.column.specs.Seen.{columns_seen}
-use Rattle.book.specs.Declines.{at_column, kind_check}
+use Rattle.book.specs.Declines.{at_column}
+use Rattle.checks.specs.Seen.{kind_check}
 use Rattle.checks.proofs.kinds.order_kinds.Given as goal
 
 abbrev pub invariant-loop-j : goal.invariant-loop-j

@@ -2,7 +2,8 @@ use Rattle.std.proofs.Common.{◌≡◌, ◌-◌, not}
 use Rattle.column.specs.Columns.{cell_at, count_up}
 use Rattle.column.specs.Faults.{LONG, fault, in_order}
 use Rattle.column.specs.Seen.{column_seen}
-use Rattle.book.specs.Declines.{at_row, long_check, order_column}
+use Rattle.book.specs.Declines.{at_row, order_column}
+use Rattle.checks.specs.Seen.{long_check}
 use Rattle.checks.proofs.taken.column_taken.Given as goal
 
 abbrev pub invariant-loop-row : goal.invariant-loop-row

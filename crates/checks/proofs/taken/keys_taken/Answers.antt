@@ -1,6 +1,7 @@
 use Rattle.std.proofs.Common.{sym, ◌∙◌, arith}
 use Rattle.column.specs.Columns.{count_up}
-use Rattle.book.specs.Declines.{kind, kind_check, long_check, rows_check}
+use Rattle.book.specs.Declines.{kind, rows_check}
+use Rattle.checks.specs.Seen.{kind_check, long_check}
 use Rattle.checks.proofs.Checking.{column_done, column_here, column_next, column_passed, exits, refuse_none, rows_same}
 use Rattle.checks.proofs.taken.keys_taken.Goals as goal
 

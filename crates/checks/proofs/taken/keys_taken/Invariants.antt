@@ -1,7 +1,8 @@
 use Rattle.std.proofs.Common.{◌≡◌, drop}
 use Rattle.column.specs.Columns.{count_up}
 use Rattle.column.specs.Seen.{columns_seen}
-use Rattle.book.specs.Declines.{at_column, long_check}
+use Rattle.book.specs.Declines.{at_column}
+use Rattle.checks.specs.Seen.{long_check}
 use Rattle.checks.proofs.taken.keys_taken.Given as goal
 
 abbrev pub invariant-loop-j : goal.invariant-loop-j
