@@ -13,7 +13,7 @@
 --   SameMade   nothing of how an accumulator was made has changed
 --   in_turn     the answer of two steps, the second only where the first is not declined
 --   Grown       the tables before and after growing to a total; GrowsNot one of them declines
-use Rattle.std.specs.Prelude.{◌≡◌, ℕ, zero, suc, ◌-◌, ◌<◌, Bool, true, false, cond, not, ◌&&◌, List, [], ◌∷◌, ◌++◌, map, length, set, replicate, Some, None, Ok, Err, filter, Option, Result, ◌==◌, ◌≢◌, slice_index, slice_index_or, slice_set}
+use Rattle.std.specs.Prelude.{◌≡◌, ℕ, zero, suc, ◌-◌, ◌<◌, Bool, true, false, cond, not, ◌&&◌, List, [], ◌∷◌, ◌++◌, map, length, replicate, Some, None, Ok, Err, filter, Option, Result, ◌==◌, ◌≢◌, slice_index, slice_index_or, slice_set}
 use Rattle.std.specs.declared.cmp.Ordering.TheVariants.{Less, Equal, Greater}
 use Rattle.std.specs.declared.cmp.Ordering.{Ordering}
 use Rattle.column.specs.Cells.{Cell, Kind, is_null}

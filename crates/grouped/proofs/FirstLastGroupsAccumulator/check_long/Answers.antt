@@ -1,4 +1,4 @@
-use Rattle.book.specs.Declines.{kind, long}
+use Rattle.book.specs.Declines.{long}
 use Rattle.grouped.proofs.Checking.{exits, first_some, first_then, kind_parts}
 use Rattle.grouped.proofs.FirstLastGroupsAccumulator.check_long.Goals as goal
 

@@ -1,5 +1,4 @@
 use Rattle.std.proofs.Common.{◌≤◌, length, refl, ap, ◌∙◌, arith}
-use Rattle.layout.specs.Layout.{fits}
 use Rattle.layout.specs.Written.{parts_seen}
 use Rattle.tables.proofs.Declining.{drop_fine}
 use Rattle.tables.specs.Meaning.{state_of}

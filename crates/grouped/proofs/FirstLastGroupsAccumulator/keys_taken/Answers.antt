@@ -1,6 +1,6 @@
 use Rattle.std.proofs.Common.{sym, ◌∙◌, arith}
 use Rattle.column.specs.Columns.{count_up}
-use Rattle.book.specs.Declines.{kind, kind_check, long_check, rows_check}
+use Rattle.book.specs.Declines.{kind_check, long_check, rows_check}
 use Rattle.grouped.proofs.Checking.{column_done, column_here, column_next, column_passed, exits, refuse_none, rows_same}
 use Rattle.grouped.specs.Accumulators.{made_of}
 use Rattle.grouped.proofs.FirstLastGroupsAccumulator.keys_taken.Goals as goal

@@ -1,8 +1,5 @@
 use Rattle.std.proofs.Common.{ap}
 use Rattle.tables.specs.Meaning.{first_cells, state_of}
-use Rattle.book.specs.Calls.{state}
-use Rattle.book.specs.Emission.{first}
-use Rattle.grouped.specs.Accumulators.{making}
 use Rattle.grouped.proofs.FirstLastGroupsAccumulator.new.Goals as goal
 
 pub returns : goal.returns

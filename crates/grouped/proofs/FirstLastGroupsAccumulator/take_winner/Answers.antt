@@ -1,6 +1,5 @@
 use Rattle.std.proofs.Common.{[], ◌∷◌, length, sym, refl, ◌∙◌}
 use Rattle.column.specs.Seen.{column_seen, columns_seen}
-use Rattle.book.specs.Calls.{after, state}
 use Rattle.grouped.proofs.Replacing.{cell_held, done_so, key_held, ok_inj, row_left, row_taken}
 use Rattle.grouped.specs.Accumulators.{flags_of}
 use Rattle.grouped.proofs.FirstLastGroupsAccumulator.take_winner.Goals as goal

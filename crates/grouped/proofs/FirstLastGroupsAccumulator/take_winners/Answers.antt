@@ -1,10 +1,7 @@
 use Rattle.std.proofs.Common.{◌≡◌, ◌<◌, false, [], ◌∷◌, length, ap, ◌∙◌, ap₂, arith}
 use Rattle.std.proofs.lemmas.List.{length-take-le}
 use Rattle.column.specs.Seen.{column_seen, columns_seen}
-use Rattle.layout.specs.Layout.{fits}
 use Rattle.tables.specs.Refusals.{cell_refused, key_refused}
-use Rattle.book.specs.Calls.{state}
-use Rattle.book.specs.Declines.{long}
 use Rattle.grouped.proofs.Replacing.{below_long, below_more}
 use Rattle.grouped.specs.Accumulators.{flags_of}
 use Rattle.grouped.specs.Walk.{Table, row_of, table, take_maybe}

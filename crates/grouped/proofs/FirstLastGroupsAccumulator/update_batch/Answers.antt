@@ -1,7 +1,6 @@
 use Rattle.std.proofs.Common.{false, [], ◌∷◌, length, sym, refl, ap, ◌∙◌, arith}
 use Rattle.std.proofs.lemmas.List.{length-take-le}
 use Rattle.column.specs.Seen.{column_seen, columns_seen, marks_seen}
-use Rattle.layout.specs.Layout.{fits}
 use Rattle.tables.specs.Refusals.{cell_refused, key_refused}
 use Rattle.grouped.proofs.Batching.{declines, finishes, grown_cells, grown_flags, grown_keys, made_on, made_same, never_short, seen_refused}
 use Rattle.grouped.proofs.Checking.{exits}
