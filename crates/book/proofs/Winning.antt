@@ -4,7 +4,7 @@ use mathlib.Core.Path.{fun_ext}
 use Rattle.std.proofs.lemmas.List.Elements.{filter-append}
 use Rattle.std.proofs.ByRecursion.{kept_by_passes, All-weaker}
 use Rattle.std.proofs.lemmas.Bool.{not-true, or_parts, cond-true, cond-false}
-use Rattle.std.specs.List.{AllByRecursion as All}
+use Rattle.std.specs.List.{AllByRecursion}
 use Rattle.book.specs.Winners.{Row, Making, Lawful, beats, unbeaten, top_rows, earliest, winner}
 use Rattle.tables.specs.Refusals.{some_of}
 
@@ -14,22 +14,22 @@ pub some_of_append : {X : Type 0} (p : X → Bool) (xs ys : List X) → some_of 
 some_of_append p [] ys = refl
 some_of_append p (x ∷ xs) ys = let ih = some_of_append p xs ys in grind arith
 
-none_all : {X : Type 0} (p : X → Bool) (xs : List X) → some_of p xs ≡ false → All (λ x. p x ≡ false) xs
+none_all : {X : Type 0} (p : X → Bool) (xs : List X) → some_of p xs ≡ false → AllByRecursion (λ x. p x ≡ false) xs
 none_all p [] h = tt
 none_all p (x ∷ xs) h = let e = or_parts (p x) (some_of p xs) h in (e.0, none_all p xs e.1)
 
-all_none : {X : Type 0} (p : X → Bool) (xs : List X) → All (λ x. p x ≡ false) xs → some_of p xs ≡ false
+all_none : {X : Type 0} (p : X → Bool) (xs : List X) → AllByRecursion (λ x. p x ≡ false) xs → some_of p xs ≡ false
 all_none p [] h = refl
 all_none p (x ∷ xs) h = let ih = all_none p xs h.1 in let e = h.0 in grind arith
 
-none_kept : {X : Type 0} (p : X → Bool) (xs : List X) → All (λ x. p x ≡ false) xs → filter p xs ≡ []
+none_kept : {X : Type 0} (p : X → Bool) (xs : List X) → AllByRecursion (λ x. p x ≡ false) xs → filter p xs ≡ []
 none_kept p [] h = refl
 none_kept p (x ∷ xs) h = cond-false (p x) _ _ h.0 ∙ none_kept p xs h.1
 
 first_passes : (p : Row → Bool) (xs : List Row) (w : Row) → earliest (filter p xs) ≡ Some w → p w ≡ true
 first_passes p xs w h = go (filter p xs) (kept_by_passes p xs) h
   where
-    go : (ys : List Row) → All (λ y. p y ≡ true) ys → earliest ys ≡ Some w → p w ≡ true
+    go : (ys : List Row) → AllByRecursion (λ y. p y ≡ true) ys → earliest ys ≡ Some w → p w ≡ true
     go [] a e = cc
     go (y ∷ ys) a e = let f = a.0 in cc
 
@@ -79,7 +79,7 @@ module _ (m : Making) (laws : Lawful m) where
   unfolding unbeaten
   unbeaten_push xs y r = let e = some_of_append (λ s. beats m s r) xs (y ∷ []) in grind arith
 
-  not_beaten_by : (xs : List Row) (w : Row) → winner m xs ≡ Some w → All (λ s. beats m s w ≡ false) xs
+  not_beaten_by : (xs : List Row) (w : Row) → winner m xs ≡ Some w → AllByRecursion (λ s. beats m s w ≡ false) xs
   unfolding winner top_rows unbeaten
   not_beaten_by xs w h = none_all (λ s. beats m s w) xs (not-true _ (first_passes (unbeaten m xs) xs w h))
 
@@ -88,7 +88,7 @@ module _ (m : Making) (laws : Lawful m) where
   winner_push_beaten xs w y h k =
       let p : Row → Bool = unbeaten m (xs ++ y ∷ []) in
       let below = not_beaten_by xs w h in
-      let old : All (λ r. p r ≡ false) xs =
+      let old : AllByRecursion (λ r. p r ≡ false) xs =
       All-weaker (λ r. beats m r w ≡ false) (λ r. p r ≡ false) (λ r e. let f = unbeaten_push xs y r in let g = beats_over y w r k e in grind arith) xs below in
       let none : some_of (λ s. beats m s y) xs ≡ false =
       all_none (λ s. beats m s y) xs (All-weaker (λ r. beats m r w ≡ false) (λ r. beats m r y ≡ false) (λ r e. beats_back y w r k e) xs below) in

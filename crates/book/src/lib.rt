@@ -2,13 +2,13 @@
 #![tactic(auto)]
 
 ghost use Rattle.std.specs.Prelude.{◌≡◌, length};
-ghost use Rattle.std.specs.List.{AllByRecursion as All};
+ghost use Rattle.std.specs.List.{AllByRecursion};
 ghost use Rattle.book.specs.Cases.{cases, ComesOut, BytesWritten};
 
 // How many worked cases there are; each comes out as the table says.
 pub fn worked_cases() -> usize
     ensures count { result ≡ length cases }
-    ensures hold { All ComesOut cases }
+    ensures hold { AllByRecursion ComesOut cases }
     ensures bytes { BytesWritten }
 {
     12

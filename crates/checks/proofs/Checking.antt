@@ -1,7 +1,7 @@
 -- What the checks of a batch find.
 use Rattle.std.proofs.Common.{◌≡◌, ℕ, zero, suc, ◌+◌, ◌-◌, ◌<◌, ◌≤◌, Bool, true, false, cond, not, ◌&&◌, eqb, leb, List, [], ◌∷◌, map, length, get_or, drop, IsErrAnd, Some, None, Option, Result, sym, refl, ap, ◌∙◌, add-zero, add-one, arith}
 use lib.ListN.{get_or-map}
-use Rattle.std.specs.List.{AllByRecursion as All}
+use Rattle.std.specs.List.{AllByRecursion}
 use Rattle.column.specs.declared.Column as code
 use Rattle.tables.specs.declared.StateFault.TheVariants as state
 use Rattle.tables.specs.declared.OrderFault.TheVariants as order
@@ -116,7 +116,7 @@ first_none None cs e = (refl, e)
 first_none (Some f) cs e = (cc, cc)
 
 -- where the first check that holds is none, no check holds
-pub none_hold : (cs : List (Option Fault)) → first_of cs ≡ None → All (λ o. o ≡ None) cs
+pub none_hold : (cs : List (Option Fault)) → first_of cs ≡ None → AllByRecursion (λ o. o ≡ None) cs
 none_hold [] e = tt
 none_hold (c ∷ cs) e = let p = first_none c cs e in (p.0, none_hold cs p.1)
 

@@ -7,7 +7,7 @@
 --   number_cell, text_cell, fields_cell   the cell of a number, a byte string or a record that may be missing
 use Rattle.std.specs.Prelude.{◌≡◌, ℕ, ◌<◌, ◌≤◌, Bool, true, false, List, length, ℤ, Some, None, Option, FitsSigned, slice_index_or}
 use Rattle.std.specs.Int.{w64}
-use Rattle.std.specs.List.{AllByRecursion as All}
+use Rattle.std.specs.List.{AllByRecursion}
 
 pub data Kind : Type 0 where
   numbers strings records : Kind
@@ -42,7 +42,7 @@ FieldFits (Some z) = FitsSigned w64 z
 abbrev pub Proper : Kind → Cell → Type 0
 Proper k null = Unit {0}
 Proper k (number z) = (k ≡ numbers) × FitsSigned w64 z
-Proper k (text bs) = (k ≡ strings) × All (λ b. b < 256) bs × (length bs ≤ 16777215)
+Proper k (text bs) = (k ≡ strings) × AllByRecursion (λ b. b < 256) bs × (length bs ≤ 16777215)
 Proper k (fields a b c) = (k ≡ records) × FieldFits a × FieldFits b × FieldFits c
 
 abbrev pub number_cell : Option ℤ → Cell

@@ -1,6 +1,6 @@
 -- The relations that come with the stage are total and transitive, and the states and orders of numbers keep their laws.
 use Rattle.std.proofs.Common.{◌≡◌, ℕ, zero, suc, Bool, true, ◌||◌, List, [], ◌∷◌, map, get_or, Some, None, Option, refl, arith}
-use Rattle.std.specs.List.{AllByRecursion as All}
+use Rattle.std.specs.List.{AllByRecursion}
 use Rattle.std.proofs.lemmas.Int.{ints}
 use Rattle.std.proofs.lemmas.Bool.{ltb-true, false≢true}
 use Rattle.column.specs.Cells.{numbers, Cell, null, number, text, fields, Proper}
@@ -35,12 +35,12 @@ sorted_preorder {X} {le} pre s = record { total = total'; transitive = transitiv
 pub read_preorder : {X Y : Type 0} {le : Y → Y → Bool} (f : X → Y) → Preorder le → Preorder (λ a b. le (f a) (f b))
 read_preorder f pre = record { total = λ a b. pre.total (f a) (f b); transitive = λ a b c. pre.transitive (f a) (f b) (f c) }
 
-columns_total : (les : List (Cell → Cell → Bool)) → All (λ le. Preorder le) les → (a b : List Cell) → (by_columns les a b || by_columns les b a) ≡ true
+columns_total : (les : List (Cell → Cell → Bool)) → AllByRecursion (λ le. Preorder le) les → (a b : List Cell) → (by_columns les a b || by_columns les b a) ≡ true
 columns_total [] h a b = refl
 columns_total (le ∷ les) h a b =
     let t = h.0.total (head_cell a) (head_cell b) in let ih = columns_total les h.1 (tail_cells a) (tail_cells b) in grind arith
 
-columns_transitive : (les : List (Cell → Cell → Bool)) → All (λ le. Preorder le) les → (a b c : List Cell) → by_columns les a b ≡ true → by_columns les b c ≡ true → by_columns les a c ≡ true
+columns_transitive : (les : List (Cell → Cell → Bool)) → AllByRecursion (λ le. Preorder le) les → (a b c : List Cell) → by_columns les a b ≡ true → by_columns les b c ≡ true → by_columns les a c ≡ true
 columns_transitive [] h a b c x y = refl
 columns_transitive (le ∷ les) h a b c x y =
     let t = h.0.transitive (head_cell a) (head_cell b) (head_cell c) in
@@ -48,13 +48,13 @@ columns_transitive (le ∷ les) h a b c x y =
     let v = h.0.transitive (head_cell c) (head_cell a) (head_cell b) in
     let ih = columns_transitive les h.1 (tail_cells a) (tail_cells b) (tail_cells c) in grind arith
 
-pub columns_preorder : (les : List (Cell → Cell → Bool)) → All (λ le. Preorder le) les → Preorder (by_columns les)
+pub columns_preorder : (les : List (Cell → Cell → Bool)) → AllByRecursion (λ le. Preorder le) les → Preorder (by_columns les)
 columns_preorder les h = record { total = columns_total les h; transitive = columns_transitive les h }
 
 pub number_preorder : (s : Sorting) → Preorder (number_leq s)
 number_preorder s = read_preorder as_number (sorted_preorder (record { total = λ a b. grind (arith, ints); transitive = λ a b c h k. grind (arith, ints) }) s)
 
-number_columns : (ss : List Sorting) → All (λ le. Preorder le) (map number_leq ss)
+number_columns : (ss : List Sorting) → AllByRecursion (λ le. Preorder le) (map number_leq ss)
 number_columns [] = tt
 number_columns (s ∷ ss) = (number_preorder s, number_columns ss)
 
