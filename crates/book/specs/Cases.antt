@@ -1,7 +1,7 @@
 -- Cases: worked cases as one table, through the bytes of columns.
 --   n, cells_row, row     a number cell; the row of a value and one key; the same of two numbers
 --   column, flag_column   columns that show these cells or truth values; a null flag stands over a true bit, which must not count
---   not-false             the bit under a flag: a null flag has a true one
+--   not_false             the bit under a flag: a null flag has a true one
 --   batch, one            rows with a group for each and a total; rows that are all of group 0, with the total 1
 --   made                  an accumulator of numbers by one number key: FIRST or not, null values ignored or not, and how keys are sorted
 --   ascending, descending_nulls_first   two ways to sort keys, the first with nulls last
@@ -12,9 +12,9 @@
 --   taken, filtered, merged   an update without a filter, one with a filter, and a merge with flags, which are done
 --   two_held, most_held   two groups, and 256, are taken in, and what is then declined
 --   cases                 the table
---   ComesOut             from the empty book on, the calls result in what the case says, and its winners are there at the end
+--   ComesOut              from the empty book on, the calls result in what the case says, and its winners are there at the end
 --   bytes_by              every output byte of a call of a FIRST that took one batch before, over blank buffers
---   BytesWritten         what an evaluation and a state write, byte by byte
+--   BytesWritten          what an evaluation and a state write, byte by byte
 use Rattle.std.specs.Prelude.{◌≡◌, ℕ, Bool, true, false, List, [], ◌∷◌, ◌++◌, map, length, replicate, pos, Some, None, Option, slice_index_or}
 use Rattle.column.specs.Cells.{numbers, Cell, null, number}
 use Rattle.column.specs.Columns.{Column, Flags}
@@ -43,12 +43,12 @@ row v k = cells_row (n v) (n k)
 abbrev pub column : List Cell → Column
 column cs = record { kind = numbers; rows = length cs; validity = (laid_out numbers cs).validity; offsets = []; content = (laid_out numbers cs).content }
 
-abbrev pub not-false : Option Bool → Bool
-not-false None = true
-not-false (Some b) = b
+abbrev pub not_false : Option Bool → Bool
+not_false None = true
+not_false (Some b) = b
 
 abbrev pub flag_column : List (Option Bool) → Flags
-flag_column fs = record { rows = length fs; validity = (laid_flags fs).validity; bits = packed (map not-false fs) }
+flag_column fs = record { rows = length fs; validity = (laid_flags fs).validity; bits = packed (map not_false fs) }
 
 abbrev pub batch : List Row → List ℕ → ℕ → Batch
 batch rs groups total =
@@ -74,7 +74,7 @@ abbrev pub descending_nulls_first : Sorting
 descending_nulls_first = record { descending = true; nulls_first = true }
 
 abbrev pub made : Bool → Bool → Sorting → Making
-made is-first ignoring sorting = record { state = state_of number_state; order = number_order (sorting ∷ []); first = is-first; ignore_nulls = ignoring }
+made is_first ignoring sorting = record { state = state_of number_state; order = number_order (sorting ∷ []); first = is_first; ignore_nulls = ignoring }
 
 abbrev pub FIRST : Making
 FIRST = made true false ascending

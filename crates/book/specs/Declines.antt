@@ -4,7 +4,7 @@
 --   cols, kind, rows, long   the checks COLS, KIND, ROWS and LONG: the value column first, then the order columns, then the filter
 --   flag_rows           how many rows a filter has; without one, as many as are asked for
 --   batch_checks, batch_declined   all checks of a batch in their order, where `held` groups are held, and the first that holds
-use Rattle.std.specs.Prelude.{ℕ, suc, ◌+◌, min, Bool, cond, not, List, [], ◌∷◌, length, Some, None, Option, ◌==◌, nat_le, nat_lt, slice_index}
+use Rattle.std.specs.Prelude.{ℕ, suc, ◌+◌, min, Bool, not, List, [], ◌∷◌, length, Some, None, Option, ◌==◌, nat_le, nat_lt, slice_index, if◌then◌else◌}
 use Rattle.column.specs.Checks.{refuse, first_of}
 use Rattle.column.specs.Faults.{Fault, fault, KIND, ROWS, COLS, LONG, TOTAL, GROUP, SHRUNK, in_state, in_order, in_accumulator}
 use Rattle.column.specs.Cells.{same_kind}
@@ -15,7 +15,7 @@ use Rattle.book.specs.Batches.{Given, Batch, order_columns, every_row}
 
 abbrev pub at_row : (ℕ → Bool) → (ℕ → Fault) → List ℕ → Option Fault
 at_row test f [] = None
-at_row test f (r ∷ rs) = cond (test r) (Some (f r)) (at_row test f rs)
+at_row test f (r ∷ rs) = if test r then Some (f r) else at_row test f rs
 
 abbrev pub at_column : (ℕ → Column → Option Fault) → ℕ → List Column → Option Fault
 at_column check j [] = None

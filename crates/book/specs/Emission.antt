@@ -8,7 +8,7 @@
 --   evaluate_declined, state_declined   the checks FEWER, EMPTY and SPACE, where the winners ws are held
 --   passed_on, converted_flags   the flag of a row and the flags column of a conversion: the filter with its nulls, or all true
 --   convert_declined the checks of a conversion: COLS, ROWS and SPACE
-use Rattle.std.specs.Prelude.{ℕ, suc, Bool, true, false, cond, not, List, [], ◌∷◌, map, length, take, Some, None, Option, ◌==◌, nat_lt, slice_index_or}
+use Rattle.std.specs.Prelude.{ℕ, suc, Bool, true, false, not, List, [], ◌∷◌, map, length, take, Some, None, Option, ◌==◌, nat_lt, slice_index_or, if◌then◌else◌}
 use Rattle.column.specs.Checks.{refuse, first_of}
 use Rattle.column.specs.Faults.{Fault, fault, SPACE, FEWER, EMPTY, in_state, in_order, in_accumulator}
 use Rattle.column.specs.Cells.{Kind, Cell, null}
@@ -66,7 +66,7 @@ values_short m ws out = refuse (not (fits (value_parts m ws) out)) (fault SPACE 
 abbrev pub keys_short : ℕ → List Parts → List Parts → Option Fault
 keys_short j [] outs = None
 keys_short j (p ∷ ps) [] = Some (fault SPACE in_order (order_column j) 0)
-keys_short j (p ∷ ps) (o ∷ outs) = cond (fits p o) (keys_short (suc j) ps outs) (Some (fault SPACE in_order (order_column j) 0))
+keys_short j (p ∷ ps) (o ∷ outs) = if fits p o then keys_short (suc j) ps outs else Some (fault SPACE in_order (order_column j) 0)
 
 abbrev pub flags_short : FlagParts → FlagParts → Option Fault
 flags_short new before = refuse (not (fits_flags new before)) (fault SPACE in_accumulator 4 0)

@@ -7,7 +7,7 @@
 --   top_rows   the rows of a group that no other of its rows beats, in the order in which they came
 --   winner     the earliest top row; none where there are no rows
 --   winners    the winner of each group
-use Rattle.std.specs.Prelude.{Bool, cond, not, List, [], ◌∷◌, map, Some, None, filter, Option}
+use Rattle.std.specs.Prelude.{Bool, not, List, [], ◌∷◌, map, Some, None, filter, Option, if◌then◌else◌}
 use Rattle.column.specs.Cells.{Cell}
 use Rattle.tables.specs.Meaning.{Settings, StateMeaning, StateLaws, OrderLaws}
 use Rattle.tables.specs.Refusals.{some_of}
@@ -27,7 +27,7 @@ pub record Lawful (m : Making) : Type 0 where
   pub of_order : OrderLaws m.order
 
 unfoldable pub beats : Making → Row → Row → Bool
-beats m a b = cond m.first (not (m.order.leq b.key a.key)) (not (m.order.leq a.key b.key))
+beats m a b = if m.first then not (m.order.leq b.key a.key) else not (m.order.leq a.key b.key)
 
 unfoldable pub unbeaten : Making → List Row → Row → Bool
 unbeaten m g r = not (some_of (λ s. beats m s r) g)

@@ -158,11 +158,11 @@ pub kind_parts : (m : Making) (g : Given) → kind m g ≡ None → (same_kind g
 unfolding kind
 kind_parts m g e =
     let p = first_two_none _ _ e in
-    (not-false (same_kind g.value.kind m.state.kind) (refuse_none _ _ p.0), p.1)
+    (not_false (same_kind g.value.kind m.state.kind) (refuse_none _ _ p.0), p.1)
   where
-    not-false : (b : Bool) → not b ≡ false → b ≡ true
-    not-false true e = refl
-    not-false false e = sym e
+    not_false : (b : Bool) → not b ≡ false → b ≡ true
+    not_false true e = refl
+    not_false false e = sym e
 
 pub rows_same : (a b : ℕ) (f : Fault) → refuse (not (eqb a b)) f ≡ None → a ≡ b
 rows_same a b f e = go (eqb a b) refl e

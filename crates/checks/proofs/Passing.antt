@@ -12,9 +12,9 @@ use Rattle.book.specs.Declines.{at_row, at_column, order_column, cols, kind, lon
 use Rattle.checks.specs.Seen.{kind_check, long_check}
 use Rattle.checks.proofs.Checking.{refuse_none, kind_parts, rows_parts, rows_same, first_two_none, none_hold}
 
-not-false : (b : Bool) → not b ≡ false → b ≡ true
-not-false true e = refl
-not-false false e = sym e
+not_false : (b : Bool) → not b ≡ false → b ≡ true
+not_false true e = refl
+not_false false e = sym e
 
 some_column_none : (check : ℕ → Column → Option Fault) (p : ℕ → Column → Bool) → ((j : ℕ) (c : Column) → check j c ≡ None → p j c ≡ false)
     → (cs : List Column) (i : ℕ) → at_column check i cs ≡ None → some_column p i cs ≡ false
@@ -64,7 +64,7 @@ module _ (m : Making) (g : Given) (col : cols m g ≡ None) (kin : kind m g ≡ 
   unfolding cell_refused
   cell_passes s is r h =
       let k : same_kind g.value.kind (state_of s).kind ≡ true = ap (λ (x : StateMeaning). same_kind g.value.kind x.kind) (sym is) ∙ (kind_parts m g kin).0 in
-      let l : s.takes 0 (cell_at g.value r) ≡ true = ap (λ (x : StateMeaning). x.takes (cell_at g.value r)) (sym is) ∙ not-false _ (row_none (λ r. not (m.state.takes (cell_at g.value r))) (λ r. fault LONG in_state 0 r) 0 g.value.rows r long_parts.0 (omega arith) (omega arith)) in
+      let l : s.takes 0 (cell_at g.value r) ≡ true = ap (λ (x : StateMeaning). x.takes (cell_at g.value r)) (sym is) ∙ not_false _ (row_none (λ r. not (m.state.takes (cell_at g.value r))) (λ r. fault LONG in_state 0 r) 0 g.value.rows r long_parts.0 (omega arith) (omega arith)) in
       rw (k, lt-ltb r g.value.rows h, l)
 
 pub passed : (s : Settings) (m : Making) (held : ℕ) (b : Batch) (marks : Option Flags) → m.state ≡ state_of s → batch_declined m held b marks ≡ None → Passed s m held b

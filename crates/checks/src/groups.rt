@@ -1,5 +1,5 @@
 // TOTAL, SHRUNK and GROUP: how many groups there are, and which.
-ghost use Rattle.std.specs.Prelude.{◌≡◌, leb, [], ◌∷◌, length, nat_le, nat_lt, slice_index};
+ghost use Rattle.std.specs.Prelude.{◌≡◌, [], ◌∷◌, length, nat_le, nat_lt, slice_index};
 ghost use Rattle.column.specs.Checks.{refuse, first_of};
 ghost use Rattle.column.specs.Columns.{count_up};
 ghost use Rattle.column.specs.Faults.{fault, TOTAL, GROUP, SHRUNK, in_accumulator};
@@ -33,7 +33,7 @@ fn below(group: usize, total: usize, row: usize) -> Result<(), Fault>
 
 // GROUP.
 pub(crate) fn check_groups(indices: &[usize], total: usize) -> Result<(), Fault>
-    ensures { declined_seen result ≡ at_row (λ r. leb total (slice_index indices.now r)) (λ r. fault GROUP in_accumulator 9 r) (count_up 0 (length indices.now)) }
+    ensures { declined_seen result ≡ at_row (λ r. nat_le total (slice_index indices.now r)) (λ r. fault GROUP in_accumulator 9 r) (count_up 0 (length indices.now)) }
 {
     for (row, group) in indices.iter().enumerate() {
         below(*group, total, row)?;

@@ -4,10 +4,10 @@
 --   first_of        the first check of a list that holds: it alone declines the call
 --   outcome         what a call answers: its result, unless a check holds
 --   unless_refused  what is there afterwards: the new, or unchanged the old where a check holds
-use Rattle.std.specs.Prelude.{Bool, cond, List, [], ◌∷◌, Some, None, Ok, Err, Option, Result}
+use Rattle.std.specs.Prelude.{Bool, List, [], ◌∷◌, Some, None, Ok, Err, Option, Result, if◌then◌else◌}
 
 abbrev pub refuse : {F : Type 0} → Bool → F → Option F
-refuse t f = cond t (Some f) None
+refuse t f = if t then Some f else None
 
 abbrev pub first_of : {F : Type 0} → List (Option F) → Option F
 first_of [] = None

@@ -13,9 +13,8 @@
 --   flag_at     the truth value in row r, or none
 --   true_at     row r is true and not null
 --   count_up    the numbers from one on, so many of them
-use Rattle.std.specs.Prelude.{ℕ, zero, suc, ◌+◌, ◌-◌, ◌*◌, ◌/◌, ◌%◌, ◌^◌, Bool, cond, ◌&&◌, ◌||◌, List, [], ◌∷◌, map, length, get_or, take, drop, ℤ, Some, None, Option, ◌==◌, nat_le, nat_lt}
-use Rattle.std.proofs.Common.{to_z}
-use Rattle.std.specs.Int.{w64}
+use Rattle.std.specs.Prelude.{ℕ, zero, suc, ◌+◌, ◌-◌, ◌*◌, ◌/◌, ◌%◌, ◌^◌, Bool, ◌&&◌, ◌||◌, List, [], ◌∷◌, map, length, take, drop, ℤ, Some, None, Option, ◌==◌, nat_le, nat_lt, slice_index, if◌then◌else◌}
+use Rattle.std.specs.Int.{w64, cast_signed}
 use Rattle.std.specs.Option.{option_map}
 use Rattle.column.specs.Cells.{Kind, numbers, strings, records, Cell, number_cell, text_cell, fields_cell}
 
@@ -32,7 +31,7 @@ pub record Flags : Type 0 where
   pub bits : List ℕ
 
 unfoldable pub bit_at : List ℕ → ℕ → Bool
-bit_at bytes r = (get_or bytes (r / 8) 0 / 2 ^ (r % 8)) % 2 == 1
+bit_at bytes r = (slice_index bytes (r / 8) / 2 ^ (r % 8)) % 2 == 1
 
 abbrev pub present : List ℕ → ℕ → Bool
 present bytes r = length bytes == 0 || bit_at bytes r
@@ -47,27 +46,25 @@ little (b ∷ bs) = b + 256 * little bs
 
 -- the signed number of 64 bits in the eight bytes from `start` on
 unfoldable pub number_in : List ℕ → ℕ → ℤ
-number_in bytes start = to_z w64 (little (part start 8 bytes))
+number_in bytes start = cast_signed w64 (little (part start 8 bytes))
 
 -- field j of the record whose 25 bytes begin at `start`: bit j of the first byte says whether it is there
 abbrev pub field_in : List ℕ → ℕ → ℕ → Option ℤ
-field_in bytes start j = cond (bit_at (part start 1 bytes) j) (Some (number_in bytes (start + 1 + 8 * j))) None
+field_in bytes start j = if bit_at (part start 1 bytes) j then Some (number_in bytes (start + 1 + 8 * j)) else None
 
 abbrev pub number_at : Column → ℕ → Option ℤ
-number_at c r = cond (present c.validity r && nat_le (8 * r + 8) (length c.content)) (Some (number_in c.content (8 * r))) None
+number_at c r = if present c.validity r && nat_le (8 * r + 8) (length c.content) then Some (number_in c.content (8 * r)) else None
 
 abbrev pub text_there : Column → ℕ → Bool
-text_there c r = nat_lt (r + 1) (length c.offsets) && (nat_le (get_or c.offsets r 0) (get_or c.offsets (r + 1) 0) && nat_le (get_or c.offsets (r + 1) 0) (length c.content))
+text_there c r = nat_lt (r + 1) (length c.offsets) && (nat_le (slice_index c.offsets r) (slice_index c.offsets (r + 1)) && nat_le (slice_index c.offsets (r + 1)) (length c.content))
 
 abbrev pub text_at : Column → ℕ → Option (List ℕ)
 text_at c r =
-    cond (present c.validity r && text_there c r)
-    (Some (part (get_or c.offsets r 0) (get_or c.offsets (r + 1) 0 - get_or c.offsets r 0) c.content)) None
+    if present c.validity r && text_there c r then Some (part (slice_index c.offsets r) (slice_index c.offsets (r + 1) - slice_index c.offsets r) c.content) else None
 
 abbrev pub fields_at : Column → ℕ → Option (List (Option ℤ))
 fields_at c r =
-    cond (present c.validity r && nat_le (25 * r + 25) (length c.content))
-    (Some (field_in c.content (25 * r) 0 ∷ field_in c.content (25 * r) 1 ∷ field_in c.content (25 * r) 2 ∷ [])) None
+    if present c.validity r && nat_le (25 * r + 25) (length c.content) then Some (field_in c.content (25 * r) 0 ∷ field_in c.content (25 * r) 1 ∷ field_in c.content (25 * r) 2 ∷ []) else None
 
 abbrev pub octets : List ℕ → List ℕ
 octets bs = map (λ b. b % 256) bs
@@ -81,7 +78,7 @@ unfoldable pub cell_at : Column → ℕ → Cell
 cell_at c r = shown c.kind c r
 
 abbrev pub flag_at : Flags → ℕ → Option Bool
-flag_at f r = cond (present f.validity r) (Some (bit_at f.bits r)) None
+flag_at f r = if present f.validity r then Some (bit_at f.bits r) else None
 
 unfoldable pub true_at : Flags → ℕ → Bool
 true_at f r = present f.validity r && bit_at f.bits r

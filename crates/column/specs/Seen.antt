@@ -3,7 +3,7 @@
 --   marks_seen      an optional boolean column
 --   columns_seen    the order columns that are given: the first so many of an array
 --   column_over, flags_over   a column and a boolean column over the caller's slices
-use Rattle.std.specs.Prelude.{ℕ, cond, List, map, take, Some, None, Option, ◌==◌}
+use Rattle.std.specs.Prelude.{ℕ, List, map, take, Some, None, Option, ◌==◌, if◌then◌else◌}
 use Rattle.std.specs.Borrow.{Bor}
 use Rattle.column.specs.Cells as Cells
 use Rattle.column.specs.Columns as Columns
@@ -32,7 +32,7 @@ columns_seen cs n = take n (map column_seen cs)
 
 -- the code's kind of a number from 1 to 3
 abbrev pub kind_coded : ℕ → Kind
-kind_coded code = cond (code == 1) Number (cond (code == 2) Bytes Record)
+kind_coded code = if code == 1 then Number else if code == 2 then Bytes else Record
 
 abbrev pub column_over : ℕ → ℕ → Bor (List ℕ) → Bor (List ℕ) → Bor (List ℕ) → Column
 column_over code rows validity offsets content = record { kind = kind_coded code; rows = rows; validity = validity; offsets = offsets; «data» = content }

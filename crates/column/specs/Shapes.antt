@@ -8,7 +8,7 @@
 --   validity_fits  no bytes at all, or exactly as many
 --   shape_fits   1,024 rows at most; no validity bytes, or as many as needed; fitting offsets and bytes
 --   column_refused, flags_refused   the checks of the making, in their order
-use Rattle.std.specs.Prelude.{ℕ, zero, suc, ◌+◌, ◌*◌, ◌/◌, Bool, true, cond, not, ◌&&◌, ◌||◌, List, [], ◌∷◌, length, Option, ◌==◌, nat_le, nat_lt, slice_index}
+use Rattle.std.specs.Prelude.{ℕ, zero, suc, ◌+◌, ◌*◌, ◌/◌, Bool, true, not, ◌&&◌, ◌||◌, List, [], ◌∷◌, length, Option, ◌==◌, nat_le, nat_lt, slice_index, if◌then◌else◌}
 use Rattle.column.specs.declared.ColumnFault.{ColumnFault}
 use Rattle.column.specs.declared.ColumnFault.TheVariants as faults
 use Rattle.column.specs.Checks.{refuse, first_of}
@@ -19,7 +19,7 @@ abbrev pub known_kind : ℕ → Bool
 known_kind code = nat_le 1 code && nat_le code 3
 
 abbrev pub kind_of : ℕ → Kind
-kind_of code = cond (code == 1) numbers (cond (code == 2) strings records)
+kind_of code = if code == 1 then numbers else if code == 2 then strings else records
 
 abbrev pub rises : List ℕ → ℕ → Bool
 rises offsets zero = true

@@ -10,10 +10,10 @@
 --   take_row    one group takes a row of a batch where that replaces what it holds; no other group changes
 --   take_maybe  the same where a row is marked
 --   take_below  the groups below a number take their marked rows
---   SameMade   nothing of how an accumulator was made has changed
+--   SameMade    nothing of how an accumulator was made has changed
 --   in_turn     the answer of two steps, the second only where the first is not declined
 --   Grown       the tables before and after growing to a total; GrowsNot one of them declines
-use Rattle.std.specs.Prelude.{◌≡◌, ℕ, zero, suc, ◌-◌, ◌<◌, Bool, true, false, cond, not, ◌&&◌, List, [], ◌∷◌, ◌++◌, map, length, replicate, Some, None, Ok, Err, filter, Option, Result, ◌==◌, ◌≢◌, slice_index, slice_index_or, slice_set}
+use Rattle.std.specs.Prelude.{◌≡◌, ℕ, zero, suc, ◌-◌, ◌<◌, Bool, true, false, not, ◌&&◌, List, [], ◌∷◌, ◌++◌, map, length, replicate, Some, None, Ok, Err, filter, Option, Result, ◌==◌, ◌≢◌, slice_index, slice_index_or, slice_set, if◌then◌else◌}
 use Rattle.std.specs.declared.cmp.Ordering.TheVariants.{Less, Equal, Greater}
 use Rattle.std.specs.declared.cmp.Ordering.{Ordering}
 use Rattle.column.specs.Cells.{Cell, Kind, is_null}
@@ -36,10 +36,10 @@ abbrev pub group_rows : Making → Given → List ℕ → Option Flags → ℕ �
 group_rows m g ix marks k n = map (row_at g) (filter (λ r. (slice_index ix r == k) && admitted m g marks r) (count_up 0 n))
 
 abbrev pub row_of : Extremes → ℕ → Option ℕ
-row_of e g = cond (slice_index_or e.marked g false) (Some (slice_index e.rows g)) None
+row_of e g = if slice_index_or e.marked g false then Some (slice_index e.rows g) else None
 
 abbrev pub pair_of : Extremes → ℕ → Option (ℕ × ℕ)
-pair_of e g = cond (slice_index_or e.marked g false) (Some (g, slice_index e.rows g)) None
+pair_of e g = if slice_index_or e.marked g false then Some (g, slice_index e.rows g) else None
 
 -- a marked row as it stands in the batch
 abbrev pub found : Given → Option ℕ → Option Row
@@ -50,7 +50,7 @@ found g (Some r) = Some (row_at g r)
 abbrev pub step : (ℕ → ℕ → Bool) → Bool → Option ℕ → ℕ → Option ℕ
 step beats false b i = b
 step beats true None i = Some i
-step beats true (Some a) i = cond (beats i a) (Some i) (Some a)
+step beats true (Some a) i = if beats i a then Some i else Some a
 
 -- row b is ahead of row a
 abbrev pub ahead_row : Settings → Bool → List Column → ℕ → ℕ → Bool
@@ -61,10 +61,10 @@ abbrev pub let_in : Bool → Column → Option Flags → ℕ → Bool
 let_in ignore v marks r = marked marks r && not (ignore && is_null (cell_at v r))
 
 abbrev pub wins : Settings → Bool → Bool → List Cell → List Cell → Bool
-wins s first flag held key = cond flag (ahead s first key held) true
+wins s first flag held key = if flag then ahead s first key held else true
 
 abbrev pub put_if : {X : Type 0} → Bool → List X → ℕ → X → List X
-put_if b xs g x = cond b (slice_set xs g x) xs
+put_if b xs g x = if b then slice_set xs g x else xs
 
 pub record Table : Type 0 where
   pub flags : List Bool

@@ -1,5 +1,5 @@
 // The checks of a batch, in their order: COLS, KIND, ROWS, TOTAL, SHRUNK, GROUP, LONG.
-ghost use Rattle.std.specs.Prelude.{◌≡◌, ℕ, ◌<◌, ◌≤◌, true, false, not, ◌&&◌, leb, [], ◌∷◌, length, None, ◌==◌, nat_le, nat_lt, slice_index};
+ghost use Rattle.std.specs.Prelude.{◌≡◌, ℕ, ◌<◌, ◌≤◌, true, false, not, ◌&&◌, [], ◌∷◌, length, None, ◌==◌, nat_le, nat_lt, slice_index};
 ghost use Rattle.column.specs.Cells.{same_kind};
 ghost use Rattle.column.specs.Checks.{refuse, first_of};
 ghost use Rattle.column.specs.Columns.{cell_at, count_up};
@@ -101,7 +101,7 @@ fn below(group: usize, total: usize, row: usize) -> Result<(), Fault>
 
 // GROUP.
 fn check_groups(indices: &[usize], total: usize) -> Result<(), Fault>
-    ensures { declined_seen result ≡ at_row (λ r. leb total (slice_index indices.now r)) (λ r. fault GROUP in_accumulator 9 r) (count_up 0 (length indices.now)) }
+    ensures { declined_seen result ≡ at_row (λ r. nat_le total (slice_index indices.now r)) (λ r. fault GROUP in_accumulator 9 r) (count_up 0 (length indices.now)) }
 {
     for (row, group) in indices.iter().enumerate() {
         below(*group, total, row)?;

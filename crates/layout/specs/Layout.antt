@@ -13,9 +13,8 @@
 --   fits, fits_flags   each buffer has room for its part: the space that the parts need
 --   written_all, fits_all   the same of columns, each against the buffers in its place; a column without buffers does not fit
 --   short_column the number of the first column that does not fit its buffers, if there is one
-use Rattle.std.specs.Prelude.{ℕ, zero, suc, ◌+◌, ◌*◌, ◌/◌, ◌%◌, Bool, true, false, cond, not, ◌&&◌, List, [], ◌∷◌, ◌++◌, map, length, drop, replicate, ℤ, Some, None, Option, nat_le}
-use Rattle.std.proofs.Common.{of_z}
-use Rattle.std.specs.Int.{w64}
+use Rattle.std.specs.Prelude.{ℕ, zero, suc, ◌+◌, ◌*◌, ◌/◌, ◌%◌, Bool, true, false, not, ◌&&◌, List, [], ◌∷◌, ◌++◌, map, length, drop, replicate, ℤ, Some, None, Option, nat_le, if◌then◌else◌}
+use Rattle.std.specs.Int.{w64, cast_unsigned}
 use Rattle.std.specs.List.{flat_map}
 use Rattle.column.specs.Cells.{Kind, numbers, strings, records, Cell, null, number, text, fields, is_null}
 use Rattle.column.specs.Columns.{part, count_up}
@@ -34,10 +33,10 @@ bytes_of zero n = []
 bytes_of (suc k) n = n % 256 ∷ bytes_of k (n / 256)
 
 unfoldable pub number_bytes : ℤ → List ℕ
-number_bytes z = bytes_of 8 (of_z w64 z)
+number_bytes z = bytes_of 8 (cast_unsigned w64 z)
 
 abbrev pub bit : Bool → ℕ
-bit b = cond b 1 0
+bit b = if b then 1 else 0
 
 abbrev pub has_field : Option ℤ → Bool
 has_field None = false
@@ -135,4 +134,4 @@ fits_all (p ∷ ps) (o ∷ os) = fits p o && fits_all ps os
 abbrev pub short_column : ℕ → List Parts → List Parts → Option ℕ
 short_column j [] os = None
 short_column j (p ∷ ps) [] = Some j
-short_column j (p ∷ ps) (o ∷ os) = cond (fits p o) (short_column (suc j) ps os) (Some j)
+short_column j (p ∷ ps) (o ∷ os) = if fits p o then short_column (suc j) ps os else Some j

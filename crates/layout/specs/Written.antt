@@ -10,7 +10,7 @@
 --   sides          one side of the first so many truth values
 --   flag_room      buffers that have a bit for each of so many truth values, in both parts
 --   flags_laid     the parts of a column of the first so many truth values
-use Rattle.std.specs.Prelude.{ℕ, ◌+◌, ◌/◌, Bool, true, false, cond, ◌&&◌, List, [], ◌∷◌, map, length, ℤ, is_some, Some, None, Option, nat_le, slice_index_or}
+use Rattle.std.specs.Prelude.{ℕ, ◌+◌, ◌/◌, Bool, true, false, ◌&&◌, List, [], ◌∷◌, map, length, ℤ, is_some, Some, None, Option, nat_le, slice_index_or, if◌then◌else◌}
 use Rattle.column.specs.Cells.{numbers, number_cell}
 use Rattle.column.specs.Columns.{count_up}
 use Rattle.layout.specs.Layout.{Parts, FlagParts, laid_out, laid_flags, known, holds}
@@ -50,7 +50,7 @@ abbrev pub sides : Side → (ℕ → Option Bool) → ℕ → List Bool
 sides s flag rows = map (side_shown s) (map flag (count_up 0 rows))
 
 abbrev pub there_shown : {X : Type 0} → List (Option X) → ℕ → Option Bool
-there_shown xs k = cond (slice_index_or (map is_some xs) k false) (Some true) None
+there_shown xs k = if slice_index_or (map is_some xs) k false then Some true else None
 
 abbrev pub flags_laid : (ℕ → Option Bool) → ℕ → FlagParts
 flags_laid flag rows = laid_flags (map flag (count_up 0 rows))

@@ -3,7 +3,7 @@
 --   order_settings  a number order compares by the columns' sortings, the first column first
 --   one_to_three    a number of columns that a number order can read
 --   columns_read    1 to 3 columns as asked for, one where another number was asked for
-use Rattle.std.specs.Prelude.{ℕ, Bool, cond, ◌&&◌, List, map, take, nat_le}
+use Rattle.std.specs.Prelude.{ℕ, Bool, ◌&&◌, List, map, take, nat_le, if◌then◌else◌}
 use Rattle.column.specs.Cells.{Cell, number_cell}
 use Rattle.tables.specs.Meaning.{Settings}
 use Rattle.tables.specs.Delivered.{number_order}
@@ -19,4 +19,4 @@ abbrev pub one_to_three : ℕ → Bool
 one_to_three n = nat_le 1 n && nat_le n 3
 
 abbrev pub columns_read : ℕ → ℕ
-columns_read n = cond (one_to_three n) n 1
+columns_read n = if one_to_three n then n else 1

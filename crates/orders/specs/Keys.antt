@@ -3,7 +3,7 @@
 --   other_numbers   the numbers of what a row's key is compared with: another row, or a held group
 --   Within          a held group is one of those held
 --   column_numbers  the numbers of one key column
-use Rattle.std.specs.Prelude.{ℕ, ◌<◌, List, [], map, get_or, take, ℤ, None, Option, slice_index_or}
+use Rattle.std.specs.Prelude.{ℕ, ◌<◌, List, [], map, take, ℤ, None, Option, slice_index_or}
 use Rattle.column.specs.Columns as Columns
 use Rattle.column.specs.Seen.{columns_seen}
 use Rattle.column.specs.declared.Column.{Column}
@@ -23,4 +23,4 @@ Within len (Row r) = Unit {0}
 Within len (Held g) = g < len
 
 abbrev pub column_numbers : ℕ → List (List (Option ℤ)) → List (Option ℤ)
-column_numbers j ks = map (λ k. get_or k j None) ks
+column_numbers j ks = map (λ k. slice_index_or k j None) ks

@@ -11,7 +11,7 @@
 --   record_state  reads records, and takes every one and null
 --   number_order  reads 1 to 3 columns of numbers, each sorted in its own way
 --   text_order    reads one column of byte strings, and takes every one of at most 32 bytes and null
-use Rattle.std.specs.Prelude.{ℕ, zero, suc, ◌^◌, Bool, true, false, cond, not, ◌&&◌, List, [], ◌∷◌, map, length, ℤ, Some, None, Option, int_le, nat_le, nat_lt}
+use Rattle.std.specs.Prelude.{ℕ, zero, suc, ◌^◌, Bool, true, false, not, ◌&&◌, List, [], ◌∷◌, map, length, ℤ, Some, None, Option, int_le, nat_le, nat_lt, if◌then◌else◌}
 use Rattle.std.specs.Int.Signed.{mag}
 use Rattle.column.specs.Cells.{numbers, strings, records, Cell, null, number, text, fields, is_null}
 use Rattle.tables.specs.declared.Sorting.{Sorting}
@@ -21,7 +21,7 @@ abbrev pub sorted_leq : {X : Type 0} → (X → X → Bool) → Sorting → Opti
 sorted_leq le s None None = true
 sorted_leq le s None (Some y) = s.nulls_first
 sorted_leq le s (Some x) None = not s.nulls_first
-sorted_leq le s (Some x) (Some y) = cond s.descending (le y x) (le x y)
+sorted_leq le s (Some x) (Some y) = if s.descending then le y x else le x y
 
 abbrev pub head_cell : List Cell → Cell
 head_cell [] = null
@@ -33,7 +33,7 @@ tail_cells (c ∷ cs) = cs
 
 abbrev pub by_columns : List (Cell → Cell → Bool) → List Cell → List Cell → Bool
 by_columns [] a b = true
-by_columns (le ∷ les) a b = cond (le (head_cell a) (head_cell b)) (cond (le (head_cell b) (head_cell a)) (by_columns les (tail_cells a) (tail_cells b)) true) false
+by_columns (le ∷ les) a b = if le (head_cell a) (head_cell b) then (if le (head_cell b) (head_cell a) then by_columns les (tail_cells a) (tail_cells b) else true) else false
 
 -- a cell of another kind counts as null
 abbrev pub as_number : Cell → Option ℤ
@@ -48,7 +48,7 @@ number_leq s a b = sorted_leq int_le s (as_number a) (as_number b)
 abbrev pub bytes_leq : List ℕ → List ℕ → Bool
 bytes_leq [] ys = true
 bytes_leq (x ∷ xs) [] = false
-bytes_leq (x ∷ xs) (y ∷ ys) = cond (nat_lt x y) true (cond (nat_lt y x) false (bytes_leq xs ys))
+bytes_leq (x ∷ xs) (y ∷ ys) = if nat_lt x y then true else if nat_lt y x then false else bytes_leq xs ys
 
 -- a cell of another kind counts as null
 abbrev pub as_text : Cell → Option (List ℕ)

@@ -5,7 +5,7 @@
 --   OrderLaws    the same of a row order in each column, and that its relation is total and transitive
 --   entry         what a table holds for a group: a cell for each column read
 --   first_cells   the cells of a value state, which has one in each entry
-use Rattle.std.specs.Prelude.{◌≡◌, ℕ, Bool, true, ◌||◌, List, map, get_or, slice_index_or}
+use Rattle.std.specs.Prelude.{◌≡◌, ℕ, Bool, true, ◌||◌, List, map, slice_index_or}
 use Rattle.column.specs.Cells.{Kind, numbers, Cell, null, Proper}
 
 pub record Settings : Type 0 where
@@ -31,8 +31,8 @@ pub record OrderLaws (o : Settings) : Type 0 where
   pub transitive : (a b c : List Cell) → o.leq a b ≡ true → o.leq b c ≡ true → o.leq a c ≡ true
 
 abbrev pub first_cells : List (List Cell) → List Cell
-first_cells es = map (λ e. get_or e 0 null) es
+first_cells es = map (λ e. slice_index_or e 0 null) es
 
 -- the cells of one key column
 abbrev pub column_cells : ℕ → List (List Cell) → List Cell
-column_cells j es = map (λ e. get_or e j null) es
+column_cells j es = map (λ e. slice_index_or e j null) es

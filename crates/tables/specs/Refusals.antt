@@ -11,7 +11,7 @@
 --   writing, measuring_key, writing_key   the checks of writing out the first n cells, or the first n cells of one key column
 --   keys_laid             the first n keys as they are written out, a column after another
 --   taking_keys           the checks of writing out the first n keys
-use Rattle.std.specs.Prelude.{ℕ, suc, ◌-◌, Bool, false, cond, not, ◌&&◌, ◌||◌, List, [], ◌∷◌, ◌++◌, map, length, take, replicate, Option, ◌==◌, nat_le, nat_lt, slice_index_or}
+use Rattle.std.specs.Prelude.{ℕ, suc, ◌-◌, Bool, false, not, ◌&&◌, ◌||◌, List, [], ◌∷◌, ◌++◌, map, length, take, replicate, Option, ◌==◌, nat_le, nat_lt, slice_index_or, if◌then◌else◌}
 use Rattle.std.specs.declared.cmp.Ordering.TheVariants.{Less, Equal, Greater}
 use Rattle.std.specs.declared.cmp.Ordering.{Ordering}
 use Rattle.std.specs.Option.{option_map}
@@ -113,7 +113,7 @@ abbrev pub key_at : List Column → ℕ → List Cell
 key_at cs r = map (λ c. cell_at c r) cs
 
 unfoldable pub verdict : Settings → List Cell → List Cell → Ordering
-verdict s a b = cond (s.leq a b) (cond (s.leq b a) Equal Less) Greater
+verdict s a b = if s.leq a b then (if s.leq b a then Equal else Less) else Greater
 
 -- the first n cells of key column j as they are written out
 abbrev pub key_laid : Settings → List (List Cell) → ℕ → ℕ → Parts

@@ -3,7 +3,7 @@ ghost use Rattle.std.specs.Prelude.{◌≡◌, []};
 ghost use Rattle.tables.specs.Delivered.{number_state};
 ghost use Rattle.tables.specs.declared.StateFault.TheVariants as state;
 ghost use Rattle.values.specs.Held.{state_entries, state_settings};
-ghost use Rattle.std.proofs.Common.{rules, arith};
+ghost use Rattle.tables.proofs.Ordering.{number_state_laws};
 
 use crate::state_table::NumberValueState;
 use column::{Column, Kind};
@@ -62,7 +62,7 @@ impl GroupTable for NumberValueState {
 }
 
 impl ValueState for NumberValueState {
-    ghost lawful = { first_of (Prim.search rules, Prim.grind (arith, Self.row.coded.inj)) };
+    ghost lawful = { λ s. number_state_laws };
 
     fn reads(&self, column: &Column) -> Result<(), StateFault> {
         check_kind(Kind::Number, column)
