@@ -1,4 +1,4 @@
-// The checks of a call's columns, each call's in its order, for every value state and row order.
+// The checks of a batch, and of a conversion's columns, each call's in its order, for every value state and row order.
 #![tactic(auto)]
 
 mod batch;

@@ -8,7 +8,7 @@ use grouped::{EmitTo, FirstLastGroupsAccumulator};
 use layout::Output;
 use midnight::close_day;
 use orders::NumberOrder;
-use tables::{Sorting, ValueState};
+use tables::Sorting;
 use values::NumberValueState;
 
 // The number of an event that has left.
