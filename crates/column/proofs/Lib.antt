@@ -1,1 +1,3 @@
 pub mod Little
+pub mod Records
+pub mod Rising

@@ -1,6 +1,5 @@
 -- Checks: how a call declines.
---   check           a refusal where something is wrong, None where it is not
---   refuse          the check that holds where a test is true
+--   refuse          a check, that is a refusal where a test is true, and None where it is not
 --   first_of        the first check of a list that holds: it alone declines the call
 --   outcome         what a call answers: its result, unless a check holds
 --   unless_refused  what is there afterwards: the new, or unchanged the old where a check holds

@@ -4,6 +4,9 @@
 --   bit_at      bit r of a row of bytes, the lowest bit of each byte first; false past the end
 --   present     row r is not null: there are no validity bytes, or its bit is 1
 --   part        some elements of a list from a place on
+--   little      the number that bytes say, the lowest byte first
+--   number_in   the signed number of 64 bits in the eight bytes from a place on
+--   field_in    one field of the record whose 25 bytes begin at a place, if it is there
 --   number_at   the number in row r; none where the row is null or its eight bytes are not all there
 --   text_there  offsets r and r + 1 are there, do not fall, and end inside the bytes
 --   text_at     the byte string between offsets r and r + 1; none where the row is null or the string is no part of the bytes

@@ -1,9 +1,10 @@
 -- Faults: the numbers of refusals and of layers.
---   KIND .. EMPTY     the number of each refusal, as users see it
+--   KIND, SHAPE, ROWS, COLS, LONG, TOTAL, GROUP, SPACE, SHRUNK, FEWER, EMPTY   the number of each refusal, as users see it
 --   in_column, in_state, in_order, in_accumulator   the number of the layer that a refusal comes from
 --   Fault, fault      a refusal as reported: its number, its layer, and the column and the row where it was met
 --   column_number     the number of each refusal of the column layer
-use Rattle.std.specs.Prelude.{ℕ}
+--   column_text       a refusal of the column layer as it is printed
+use Rattle.std.specs.Prelude.{ℕ, List, ◌++◌, codes, decimal}
 use Rattle.column.specs.declared.ColumnFault.{ColumnFault}
 use Rattle.column.specs.declared.ColumnFault.TheVariants as column
 
@@ -75,3 +76,6 @@ fault n l c r = record { number = n; layer = l; column = c; row = r }
 abbrev pub column_number : ColumnFault → ℕ
 column_number column.Kind = KIND
 column_number column.Shape = SHAPE
+
+abbrev pub column_text : ColumnFault → List ℕ
+column_text f = decimal (column_number f) ++ codes " layer=" ++ decimal in_column

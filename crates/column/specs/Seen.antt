@@ -2,6 +2,7 @@
 --   kind_seen, column_seen, flags_seen   the code's kind, column and boolean column
 --   marks_seen      an optional boolean column
 --   columns_seen    the order columns that are given: the first so many of an array
+--   kind_coded      the code's kind of a number from 1 to 3
 --   column_over, flags_over   a column and a boolean column over the caller's slices
 use Rattle.std.specs.Prelude.{ℕ, List, map, take, Some, None, Option, ◌==◌, if◌then◌else◌}
 use Rattle.std.specs.Borrow.{Bor}

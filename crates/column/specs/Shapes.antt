@@ -1,6 +1,7 @@
 -- Shapes: which parts make a column.
 --   known_kind, kind_of   a number that stands for a kind, and which: 1 numbers, 2 byte strings, 3 records
 --   rises        the first so many offsets, and one more, never fall
+--   field_fits   a field of a record is present, or its bytes are zero
 --   record_fits  25 bytes that are a record: bits 3 to 7 of the first are 0, and so are the bytes of absent fields
 --   records_fit  the first so many records are records
 --   parts_fit    offsets and bytes that fit the kind and the number of rows, in null rows too

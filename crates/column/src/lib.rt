@@ -2,12 +2,13 @@
 #![tactic(auto)]
 
 mod bits;
+mod display;
 mod making;
 mod numbering;
 mod reading;
 
 // What the cells of a column are.
-#[derive(Clone, Copy)]
+#[derive(Clone, Copy, PartialEq, Eq)]
 pub enum Kind {
     Number,
     Bytes,

@@ -1,97 +1,103 @@
 // Making a column: KIND, then SHAPE.
-ghost use Rattle.std.specs.Prelude.{◌≡◌, ◌+◌, ◌*◌, ◌<◌, ◌≤◌, length, if◌then◌else◌, Some, None};
-ghost use Rattle.column.specs.Checks.{outcome};
-ghost use Rattle.column.specs.Shapes.{known_kind, rises, field_fits, record_fits, records_fit, parts_fit, validity_fits, shape_fits, column_refused, flags_refused};
+ghost use Rattle.std.specs.Prelude.{◌≡◌, ◌/◌, ◌<◌, ◌≤◌, length, not, ◌&&◌};
+ghost use Rattle.column.specs.Checks.{outcome, refuse};
+ghost use Rattle.column.specs.Shapes.{known_kind, field_fits, record_fits, records_fit, parts_fit, bits_fit, validity_fits, shape_fits, column_refused, flags_refused};
+ghost use Rattle.column.specs.declared.ColumnFault.TheVariants as faults;
 ghost use Rattle.column.specs.Seen.{kind_seen, kind_coded, column_over, flags_over};
 
-use crate::bits::{bit, word};
+use crate::bits::{bit, number};
 use crate::{BoolColumn, Column, ColumnFault, Kind};
 
-// The kind that a number stands for.
-fn kind_of(code: u32) -> Option<Kind>
-    ensures { result ≡ (if known_kind code then Some (kind_coded code) else None) }
-{
-    match code {
-        1 => Some(Kind::Number),
-        2 => Some(Kind::Bytes),
-        3 => Some(Kind::Record),
-        _ => None,
+impl TryFrom<u32> for Kind {
+    type Error = ColumnFault;
+
+    ghost try_from_gives = { λ code r. r ≡ outcome (refuse (not (known_kind code)) faults.Kind) (kind_coded code) };
+
+    // The kind that a number stands for.
+    fn try_from(code: u32) -> Result<Kind, ColumnFault> {
+        match code {
+            1 => Ok(Kind::Number),
+            2 => Ok(Kind::Bytes),
+            3 => Ok(Kind::Record),
+            _ => Err(ColumnFault::Kind),
+        }
     }
 }
 
-// Whether the first `n + 1` offsets never fall.
-fn never_fall(offsets: &[u32], n: usize) -> bool
-    requires { n < length offsets.now }
-    ensures { result ≡ rises offsets.now n }
+// Whether field `j` of a record is present or has zero bytes.
+fn field_fits(bytes: &[u8; 25], j: usize) -> bool
+    requires { j < 3 }
+    ensures { result ≡ field_fits bytes.now 0 j }
 {
-    let mut ok = true;
-    for i in 0..n {
-        ok = ok && offsets[i] <= offsets[i + 1];
-    }
-    ok
+    bit(&bytes[..1], j) || number(bytes, 1 + 8 * j) == 0
 }
 
-// Whether field `j` of the record at `at` is present or has zero bytes.
-fn field_fits(data: &[u8], at: usize, j: usize) -> bool
-    requires { (at + 25 ≤ length «data».now) × (j < 3) }
-    ensures { result ≡ field_fits «data».now at j }
+// Whether each field of a record is present or has zero bytes.
+fn fields_fit(bytes: &[u8; 25]) -> bool
+    ensures { result ≡ (field_fits bytes.now 0 0 && (field_fits bytes.now 0 1 && field_fits bytes.now 0 2)) }
 {
-    bit(&data[at..at + 1], j) || word(data, at + 1 + 8 * j) == 0
+    (0..3).all(|j| field_fits(bytes, j))
 }
 
-// Whether the 25 bytes from `at` on are a record.
-fn record_fits(data: &[u8], at: usize) -> bool
-    requires { at + 25 ≤ length «data».now }
-    ensures { result ≡ record_fits «data».now at }
+// Whether 25 bytes are a record.
+fn record_fits(bytes: &[u8; 25]) -> bool
+    ensures { result ≡ record_fits bytes.now 0 }
 {
-    data[at] < 8 && field_fits(data, at, 0) && field_fits(data, at, 1) && field_fits(data, at, 2)
+    bytes[0] < 8 && fields_fit(bytes)
 }
 
-// Whether the first `n` records are records.
-fn records_fit(data: &[u8], n: usize) -> bool
-    requires { 25 * n ≤ length «data».now }
-    ensures { result ≡ records_fit «data».now n }
+// Whether the data are records, 25 bytes each.
+fn records_fit(data: &[u8]) -> bool
+    ensures { result ≡ records_fit «data».now (length «data».now / 25) }
 {
-    let mut ok = true;
-    for i in 0..n {
-        ok = ok && record_fits(data, 25 * i);
-    }
-    ok
+    let (records, _) = data.as_chunks();
+    records.iter().all(record_fits)
+}
+
+// Whether there are exactly as many bytes as the rows need bits.
+fn bits_fit(bytes: &[u8], rows: usize) -> bool
+    ensures { result ≡ bits_fit bytes.now rows }
+{
+    bytes.len() == rows.div_ceil(8)
 }
 
 // Whether there are no validity bytes, or as many as the rows need.
 fn validity_fits(validity: &[u8], rows: usize) -> bool
-    requires { rows ≤ 1024 }
     ensures { result ≡ validity_fits validity.now rows }
 {
-    validity.len() == 0 || validity.len() == (rows + 7) / 8
-}
-
-// Whether offsets and data fit the kind and the rows.
-fn parts_fit(kind: Kind, rows: usize, offsets: &[u32], data: &[u8]) -> bool
-    requires { rows ≤ 1024 }
-    ensures { result ≡ parts_fit (kind_seen kind) rows offsets.now «data».now }
-{
-    match kind {
-        Kind::Number => offsets.len() == 0 && data.len() == 8 * rows,
-        Kind::Bytes => {
-            offsets.len() == rows + 1
-                && never_fall(offsets, rows)
-                && offsets[rows] as usize <= data.len()
-        }
-        Kind::Record => offsets.len() == 0 && data.len() == 25 * rows && records_fit(data, rows),
-    }
-}
-
-// Whether the parts make a column of the kind.
-fn shape_fits(kind: Kind, rows: usize, validity: &[u8], offsets: &[u32], data: &[u8]) -> bool
-    ensures { result ≡ shape_fits (kind_seen kind) rows validity.now offsets.now «data».now }
-{
-    rows <= 1024 && validity_fits(validity, rows) && parts_fit(kind, rows, offsets, data)
+    validity.is_empty() || bits_fit(validity, rows)
 }
 
 impl<'a> Column<'a> {
+    // Whether offsets and data fit the kind and the rows.
+    fn parts_fit(&self) -> bool
+        requires { self.now.rows ≤ 1024 }
+        ensures { result ≡ parts_fit (kind_seen self.now.kind) self.now.rows self.now.offsets.now self.now.«data».now }
+    {
+        match self.kind {
+            Kind::Number => self.offsets.is_empty() && self.data.len() == 8 * self.rows,
+            Kind::Bytes => {
+                self.offsets.len() == self.rows + 1
+                    && self.offsets.is_sorted()
+                    && self.offsets[self.rows] as usize <= self.data.len()
+            }
+            Kind::Record => {
+                self.offsets.is_empty()
+                    && self.data.len() == 25 * self.rows
+                    && records_fit(self.data)
+            }
+        }
+    }
+
+    // Whether the parts make a column of the kind.
+    fn shape_fits(&self) -> bool
+        ensures { result ≡ shape_fits (kind_seen self.now.kind) self.now.rows self.now.validity.now self.now.offsets.now self.now.«data».now }
+    {
+        self.rows <= 1024 && validity_fits(self.validity, self.rows) && self.parts_fit()
+    }
+
     // The column over the caller's parts; `kind` is 1 for numbers, 2 for byte strings, 3 for records.
+    // By a rule of the project the kind comes as a number, so that an unknown one can be declined.
     pub fn new(
         kind: u32,
         rows: usize,
@@ -101,19 +107,17 @@ impl<'a> Column<'a> {
     ) -> Result<Column<'a>, ColumnFault>
         ensures { result ≡ outcome (column_refused kind rows validity.now offsets.now «data».now) (column_over kind rows validity.entry offsets.entry «data».entry) }
     {
-        let Some(kind) = kind_of(kind) else {
-            return Err(ColumnFault::Kind);
-        };
-        if !shape_fits(kind, rows, validity, offsets, data) {
-            return Err(ColumnFault::Shape);
-        }
-        Ok(Column {
-            kind,
+        let column = Column {
+            kind: Kind::try_from(kind)?,
             rows,
             validity,
             offsets,
             data,
-        })
+        };
+        if !column.shape_fits() {
+            return Err(ColumnFault::Shape);
+        }
+        Ok(column)
     }
 }
 
@@ -126,7 +130,7 @@ impl<'a> BoolColumn<'a> {
     ) -> Result<BoolColumn<'a>, ColumnFault>
         ensures { result ≡ outcome (flags_refused rows validity.now bits.now) (flags_over rows validity.entry bits.entry) }
     {
-        if rows > 1024 || !validity_fits(validity, rows) || bits.len() != (rows + 7) / 8 {
+        if rows > 1024 || !validity_fits(validity, rows) || !bits_fit(bits, rows) {
             return Err(ColumnFault::Shape);
         }
         Ok(BoolColumn {

@@ -1,4 +1,4 @@
-// The number and the layer of a column's refusal.
+// The number and the layer of a column's refusal, as the project's rules give them to users.
 ghost use Rattle.std.specs.Prelude.{◌≡◌};
 ghost use Rattle.column.specs.Faults.{column_number, in_column};
 

@@ -2,7 +2,7 @@
 ghost use Rattle.std.specs.Prelude.{◌≡◌, ◌+◌, ◌<◌, ◌≤◌, length};
 ghost use Rattle.std.specs.Option.{option_map};
 ghost use Rattle.column.specs.Cells.{is_null};
-ghost use Rattle.column.specs.Columns.{number_at, text_at, fields_at, field_in, cell_at, flag_at, true_at, text_there};
+ghost use Rattle.column.specs.Columns.{number_at, text_at, fields_at, field_in, cell_at, flag_at, true_at};
 ghost use Rattle.column.specs.Seen.{column_seen, flags_seen};
 
 use crate::bits::{bit, number, valid};
@@ -13,31 +13,19 @@ impl<'a> Column<'a> {
     pub fn number(&self, r: usize) -> Option<i64>
         ensures { result ≡ number_at (column_seen self.now) r }
     {
-        if valid(self.validity, r) && r < self.data.len() / 8 {
-            Some(number(self.data, 8 * r))
-        } else {
-            None
-        }
-    }
-
-    // Whether the byte string of row `r` is a part of the data.
-    fn has_text(&self, r: usize) -> bool
-        ensures { result ≡ text_there (column_seen self.now) r }
-    {
-        if r >= self.offsets.len() || r + 1 >= self.offsets.len() {
-            return false;
-        }
-        self.offsets[r] <= self.offsets[r + 1] && self.offsets[r + 1] as usize <= self.data.len()
+        (valid(self.validity, r) && r < self.data.len() / 8).then(|| number(self.data, 8 * r))
     }
 
     // The byte string in row `r`, read as in a column of byte strings; none where it is null.
     pub fn bytes(&self, r: usize) -> Option<&'a [u8]>
         ensures { option_map (λ x. x.now) result ≡ text_at (column_seen self.now) r }
     {
-        if valid(self.validity, r) && self.has_text(r) {
-            Some(&self.data[self.offsets[r] as usize..self.offsets[r + 1] as usize])
-        } else {
-            None
+        if !valid(self.validity, r) {
+            return None;
+        }
+        match self.offsets.get(r..)? {
+            [from, to, ..] => self.data.get(*from as usize..*to as usize),
+            _ => None,
         }
     }
 
@@ -46,11 +34,7 @@ impl<'a> Column<'a> {
         requires { (at + 25 ≤ length self.now.«data».now) × (j < 3) }
         ensures { result ≡ field_in self.now.«data».now at j }
     {
-        if bit(&self.data[at..at + 1], j) {
-            Some(number(self.data, at + 1 + 8 * j))
-        } else {
-            None
-        }
+        bit(&self.data[at..at + 1], j).then(|| number(self.data, at + 1 + 8 * j))
     }
 
     // The three fields of the record in row `r`, read as in a column of records; none where it is null.
@@ -82,17 +66,13 @@ impl<'a> BoolColumn<'a> {
     pub fn value(&self, r: usize) -> Option<bool>
         ensures { result ≡ flag_at (flags_seen self.now) r }
     {
-        if valid(self.validity, r) {
-            Some(bit(self.bits, r))
-        } else {
-            None
-        }
+        valid(self.validity, r).then_some(bit(self.bits, r))
     }
 
     // Whether row `r` is true and not null.
     pub fn is_true(&self, r: usize) -> bool
         ensures { result ≡ true_at (flags_seen self.now) r }
     {
-        valid(self.validity, r) && bit(self.bits, r)
+        self.value(r).unwrap_or(false)
     }
 }

@@ -1,9 +1,12 @@
 -- The bytes of cells: how many there are, and those of a number.
-use Rattle.std.proofs.Common.{◌≡◌, ℕ, zero, suc, ◌+◌, ◌*◌, ◌/◌, ◌%◌, not, ◌&&◌, leb, List, [], ◌∷◌, map, length, ℤ, is_some, Some, None, Option, refl, ap, ◌∙◌, arith, w64, of_z}
+use Rattle.std.proofs.Common.{◌≡◌, ℕ, zero, suc, ◌+◌, ◌*◌, ◌/◌, ◌%◌, Bool, true, false, cond, not, ◌&&◌, leb, List, [], ◌∷◌, map, length, ℤ, is_some, Some, None, Option, Ok, Err, Result, sym, refl, ap, ◌∙◌, arith, w64, of_z}
 use native.Mathlib.Nat.{div-div-eq-div-mul}
 use Rattle.std.proofs.lemmas.List.{length-map}
-use Rattle.std.proofs.lemmas.Bool.{le-leb}
+use Rattle.std.proofs.lemmas.Bool.{le-leb, cond-true, cond-false}
 use Rattle.column.specs.Cells.{Cell, null, number, text, fields, is_null, number_cell}
+use Rattle.column.specs.Checks.{outcome, refuse}
+use Rattle.layout.specs.declared.OutputFault.{OutputFault}
+use Rattle.layout.specs.declared.OutputFault.TheVariants.{Space}
 use Rattle.layout.specs.Layout.{Parts, bytes_of, number_bytes, number_content, validity_of, fits}
 use Rattle.layout.specs.Written.{numbers_laid}
 use Rattle.layout.proofs.Overs.{joined_length}
@@ -50,3 +53,16 @@ numbers_fit os before =
 pub word_bytes : (n : ℕ)
     → (n % 256) ∷ (n / 256 % 256) ∷ (n / 65536 % 256) ∷ (n / 16777216 % 256) ∷ (n / 4294967296 % 256) ∷ (n / 1099511627776 % 256) ∷ (n / 281474976710656 % 256) ∷ (n / 72057594037927936 % 256) ∷ [] ≡ bytes_of 8 n
 word_bytes n = simp div-div-eq-div-mul
+
+-- what a call answers, and what it leaves, as a test holds or not
+pub refused : (b : Bool) → b ≡ false → ◌≡◌ {A = Result (Unit {0}) OutputFault} (Err Space) (outcome (refuse (not b) Space) tt)
+refused b h = sym (ap (λ t. outcome (refuse (not t) Space) tt) h)
+
+pub taken : (b : Bool) → b ≡ true → ◌≡◌ {A = Result (Unit {0}) OutputFault} (Ok tt) (outcome (refuse (not b) Space) tt)
+taken b h = sym (ap (λ t. outcome (refuse (not t) Space) tt) h)
+
+pub kept : {A : Type 0} (b : Bool) (x y : A) → b ≡ false → y ≡ cond b x y
+kept b x y h = sym (cond-false b x y h)
+
+pub picked : {A : Type 0} (b : Bool) (x y z : A) → b ≡ true → z ≡ x → z ≡ cond b x y
+picked b x y z h e = e ∙ sym (cond-true b x y h)

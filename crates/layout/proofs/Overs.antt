@@ -1,8 +1,7 @@
 -- One more element or part written where the front of a buffer ends.
-use Rattle.std.proofs.Common.{◌≡◌, ℕ, ◌+◌, ◌*◌, ◌<◌, List, [], ◌∷◌, ◌++◌, map, length, get_or, take, drop, set, sym, ap, ◌∙◌, append_assoc, arith, length-append}
+use Rattle.std.proofs.Common.{◌≡◌, ℕ, ◌+◌, ◌*◌, ◌<◌, List, [], ◌∷◌, ◌++◌, length, get_or, take, drop, set, sym, ap, ◌∙◌, append_assoc, arith, length-append}
 use borrow.Rule.Slice.PartMut.{put_mid}
-use Rattle.std.specs.List.{range_with_len, flat_map}
-use Rattle.std.proofs.lemmas.List.FromFn.{length-map-range_with_len, map-range_with_len_more}
+use Rattle.std.specs.List.{flat_map}
 use Rattle.std.proofs.lemmas.List.{length-take-le, take_more, flat_map_more, set_at, take_at, drop_at, drop-drop, drop_more, length_push}
 use Rattle.layout.specs.Layout.{over}
 
@@ -13,12 +12,6 @@ over_push p xs i y e h =
 pub over_part : (p q xs : List ℕ) (i k : ℕ) → length p ≡ i → length q ≡ k → put_mid i k (over p xs) q ≡ over (p ++ q) xs
 over_part p q xs i k e f =
     rw (take_at p (drop (length p) xs) i e, drop_at p (drop (length p) xs) i e, drop-drop, ← f, append_assoc, length-append)
-
--- one more of the values that a function gives by the place
-pub over_counted : (f : ℕ → ℕ) (xs : List ℕ) (j y : ℕ) → j < length xs → y ≡ f j → set (over (map f (range_with_len 0 j)) xs) j y ≡ over (map f (range_with_len 0 (j + 1))) xs
-over_counted f xs j y h e =
-    over_push (map f (range_with_len 0 j)) xs j y (length-map-range_with_len f 0 j) h
-    ∙ ap (λ p. over p xs) (ap (λ z. map f (range_with_len 0 j) ++ z ∷ []) e ∙ sym (map-range_with_len_more f 0 j j (omega arith)))
 
 -- parts of one length, joined
 pub joined_length : {X A : Type 0} (f : X → List A) (w : ℕ) → ((x : X) → length (f x) ≡ w) → (xs : List X) → length (flat_map f xs) ≡ w * length xs

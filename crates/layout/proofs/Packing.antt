@@ -1,14 +1,16 @@
 -- Truth values as bits: a byte bit by bit, and the packed bytes by their index.
-use Rattle.std.proofs.Common.{◌≡◌, ℕ, zero, suc, ◌+◌, ◌*◌, ◌/◌, ◌<◌, ◌≤◌, Bool, true, false, cond, List, [], ◌∷◌, map, length, get_or, take, is_some, Some, None, Option, sym, refl, ap, ◌∙◌, inl, inr, add-one, arith}
+use Rattle.std.proofs.Common.{◌≡◌, ℕ, zero, suc, ◌+◌, ◌-◌, ◌*◌, ◌/◌, ◌%◌, ◌^◌, ◌<◌, ◌≤◌, Bool, true, false, List, [], ◌∷◌, ◌++◌, map, length, get_or, take, drop, is_some, Some, None, Option, sym, refl, ap, ◌∙◌, subst, inl, inr, add-one, arith, length-append, length-drop}
 use Rattle.std.specs.List.{range_with_len as counting}
-use Rattle.std.proofs.lemmas.List.FromFn.{length-range_with_len, length-map-range_with_len, get_or-map-range_with_len}
-use Rattle.std.proofs.lemmas.List.{drop_more, drop_all, take_all, length-map, get_or_past, get_or-map, ext_get_or}
+use Rattle.std.specs.Option.{unwrap_or}
+use Rattle.std.proofs.lemmas.List.FromFn.{length-range_with_len, length-map-range_with_len, get_or-map-range_with_len, map-range_with_len_more}
+use Rattle.std.proofs.lemmas.List.{drop_at, take_all, drop-append-le, take-append-le, get_or_append_left, get_or-append_right, get_or_push, length-map, get_or-map, ext_get_or}
+use Rattle.std.proofs.lemmas.Nat.{pow_below}
 use Rattle.std.proofs.lemmas.Bool.{cases_lt}
+use Rattle.std.proofs.Math.Nat.{pow-suc}
+use Rattle.std.proofs.Math.Pow.{pow_mono}
 use Rattle.column.specs.Columns.{part, count_up}
-use Rattle.layout.specs.Layout.{FlagParts, bit, binary, packed, known, fits_flags}
-use Rattle.layout.specs.Written.{side_shown, sides, there_shown, flags_laid, flag_room}
-use Rattle.layout.specs.declared.flags.Side.{Side}
-use Rattle.layout.specs.declared.flags.Side.TheVariants.{Known, Holds}
+use Rattle.layout.specs.Layout.{FlagParts, bit, binary, packed, known, holds, fits_flags}
+use Rattle.layout.specs.Written.{flags_laid, flag_room}
 
 pub count_up_counting : (a n : ℕ) → count_up a n ≡ counting a n
 count_up_counting a zero = refl
@@ -25,67 +27,106 @@ packed_counting bs = ap (map (byte_at bs)) (count_up_counting 0 ((length bs + 7)
 pub packed_length : (bs : List Bool) → length (packed bs) ≡ (length bs + 7) / 8
 packed_length bs = ap length (packed_counting bs) ∙ length-map-range_with_len (byte_at bs) 0 ((length bs + 7) / 8)
 
--- the bits from place k on, past the end too; m is the next place
-pub binary_more : (k m n : ℕ) (bs : List Bool) → k + 1 ≡ m → binary (part k (suc n) bs) ≡ bit (get_or bs k false) + 2 * binary (part m n bs)
-binary_more k m n bs e =
-    elim (cases_lt k (length bs)) [
-      | inl h ↦ ap (λ t. binary (take (suc n) t)) (drop_more bs k false h) ∙ ap (λ a. bit (get_or bs k false) + 2 * binary (part a n bs)) e
-      | inr h ↦ rw (drop_all k bs h, drop_all m bs (omega arith), get_or_past bs k false h, take_all {A = Bool} n [] (omega arith))
-    ]
+-- one more bit of a byte
+pub binary_more : (bs : List Bool) (b : Bool) (n : ℕ) → length bs ≡ n → binary (bs ++ b ∷ []) ≡ binary bs + bit b * 2 ^ n
+binary_more [] true n e = rw (← e) (omega arith)
+binary_more [] false n e = rw (← e) (omega arith)
+binary_more (c ∷ bs) true n e = rw (← e) (let ih = binary_more bs true (length bs) refl in rw (pow-suc 2 (length bs)) (omega arith))
+binary_more (c ∷ bs) false n e = rw (← e) (let ih = binary_more bs false (length bs) refl in rw (pow-suc 2 (length bs)) (omega arith))
 
-pub binary_eight : (k : ℕ) (bs : List Bool)
-    → binary (part k 8 bs)
-    ≡ bit (get_or bs k false) + 2 * bit (get_or bs (k + 1) false) + 4 * bit (get_or bs (k + 2) false) + 8 * bit (get_or bs (k + 3) false)
-    + 16 * bit (get_or bs (k + 4) false) + 32 * bit (get_or bs (k + 5) false) + 64 * bit (get_or bs (k + 6) false) + 128 * bit (get_or bs (k + 7) false)
-binary_eight k bs =
-    let e₀ = binary_more k (k + 1) 7 bs refl in
-    let e₁ = binary_more (k + 1) (k + 2) 6 bs (omega arith) in
-    let e₂ = binary_more (k + 2) (k + 3) 5 bs (omega arith) in
-    let e₃ = binary_more (k + 3) (k + 4) 4 bs (omega arith) in
-    let e₄ = binary_more (k + 4) (k + 5) 3 bs (omega arith) in
-    let e₅ = binary_more (k + 5) (k + 6) 2 bs (omega arith) in
-    let e₆ = binary_more (k + 6) (k + 7) 1 bs (omega arith) in
-    let e₇ = binary_more (k + 7) (k + 8) 0 bs (omega arith) in
+pub binary_below : (bs : List Bool) → binary bs < 2 ^ length bs
+binary_below [] = omega arith
+binary_below (true ∷ bs) = let ih = binary_below bs in rw (pow-suc 2 (length bs)) (omega arith)
+binary_below (false ∷ bs) = let ih = binary_below bs in rw (pow-suc 2 (length bs)) (omega arith)
+
+-- the weight of a bit of a byte
+pub weight : (i : ℕ) → i < 8 → 1 * 2 ^ i % 256 ≡ 2 ^ i
+weight i h = let p : 2 ^ i < 256 = pow_below i 8 h in omega arith
+
+-- a bit more keeps within a byte
+pub weight_fits : (bs : List Bool) (i : ℕ) → length bs ≡ i → i < 8 → binary bs + 2 ^ i < 256
+weight_fits bs i e h =
+    let b : binary bs < 2 ^ i = rw e at (binary_below bs) in
+    let p : 2 ^ suc i ≤ 2 ^ 8 = let h' : suc i ≤ 8 = h in pow_mono h' in
+    let q = pow-suc 2 i in
     omega arith
 
--- a value that is read, and whether it is there
-pub there_at : {X : Type 0} (xs : List (Option X)) (k : ℕ) (x : Option X) → k < length xs → x ≡ get_or xs k x → is_some x ≡ get_or (map is_some xs) k false
-there_at xs k x h e = ap is_some e ∙ sym (get_or-map is_some xs k x false h)
+-- what holds of each bit, and of the next one
+pub told_push : (P : ℕ → Bool → Type 0) (bs : List Bool) (b : Bool) (n : ℕ) → length bs ≡ n → ((k : ℕ) → k < n → P k (get_or bs k false)) → P n b → (k : ℕ) → k < n + 1 → P k (get_or (bs ++ b ∷ []) k false)
+told_push P bs b n e h p k l =
+    elim (cases_lt k n) [
+      | inl a ↦ rw (get_or_append_left bs (b ∷ []) false k (omega arith)) (h k a)
+      | inr a ↦ let f : n ≡ k = omega arith in rw (get_or_push bs b false k (omega arith)) (subst (λ i. P i b) f p)
+    ]
 
--- one side of truth values, row by row
+-- the same of the next ones
+pub told_more : (P : ℕ → Bool → Type 0) (bs xs : List Bool) (m n : ℕ) → length bs ≡ m → ((k : ℕ) → k < m → P k (get_or bs k false)) → ((k : ℕ) → k < n → P (m + k) (get_or xs k false))
+    → (k : ℕ) → k < m + n → P k (get_or (bs ++ xs) k false)
+told_more P bs xs m n e h g k l =
+    elim (cases_lt k m) [
+      | inl a ↦ rw (get_or_append_left bs xs false k (omega arith)) (h k a)
+      | inr a ↦
+          let f : m + (k - m) ≡ k = omega arith in
+          rw (get_or-append_right bs xs m k false e a) (subst (λ i. P i (get_or xs (k - m) false)) f (g (k - m) (omega arith)))
+    ]
 
-pub sides_length : (s : Side) (f : ℕ → Option Bool) (n : ℕ) → length (sides s f n) ≡ n
-sides_length s f n =
-    length-map (map f (count_up 0 n)) (side_shown s) ∙ length-map (count_up 0 n) f ∙ ap length (count_up_counting 0 n) ∙ length-range_with_len 0 n
+-- one more byte
+byte_before : (bs xs : List Bool) (j i : ℕ) → length bs ≡ 8 * j → i < j → byte_at (bs ++ xs) i ≡ byte_at bs i
+byte_before bs xs j i e h =
+    let l = length-drop (8 * i) bs in
+    ap (λ t. binary (take 8 t)) (drop-append-le (8 * i) bs xs (omega arith)) ∙ ap binary (take-append-le 8 (drop (8 * i) bs) xs (omega arith))
 
-pub sides_at : (s : Side) (f : ℕ → Option Bool) (n k : ℕ) → k < n → get_or (sides s f n) k false ≡ side_shown s (f k)
-sides_at s f n k h =
-    ap (λ l. get_or (map (side_shown s) (map f l)) k false) (count_up_counting 0 n)
-    ∙ get_or-map (side_shown s) (map f (counting 0 n)) k None false (let l = length-map-range_with_len f 0 n in omega arith)
-    ∙ ap (side_shown s) (get_or-map-range_with_len f 0 n k k None h (omega arith))
+byte_last : (bs xs : List Bool) (j : ℕ) → length bs ≡ 8 * j → length xs ≤ 8 → byte_at (bs ++ xs) j ≡ binary xs
+byte_last bs xs j e h = ap (λ t. binary (take 8 t)) (drop_at bs xs (8 * j) e) ∙ ap binary (take_all 8 xs h)
 
-pub sides_past : (s : Side) (f : ℕ → Option Bool) (n k : ℕ) → n ≤ k → get_or (sides s f n) k false ≡ false
-sides_past s f n k h = get_or_past (sides s f n) k false (let l = sides_length s f n in omega arith)
+bytes_same : (f g : ℕ → ℕ) (n : ℕ) → ((i : ℕ) → i < n → f i ≡ g i) → map f (counting 0 n) ≡ map g (counting 0 n)
+bytes_same f g n h =
+    let a = length-map-range_with_len f 0 n in
+    let b = length-map-range_with_len g 0 n in
+    ext_get_or 0 _ _ (omega arith) (λ k l. get_or-map-range_with_len f 0 n k k 0 (omega arith) (omega arith) ∙ h k (omega arith) ∙ sym (get_or-map-range_with_len g 0 n k k 0 (omega arith) (omega arith)))
+
+pub packed_more : (bs xs : List Bool) (j : ℕ) → length bs ≡ 8 * j → 0 < length xs → length xs ≤ 8 → packed (bs ++ xs) ≡ packed bs ++ binary xs ∷ []
+packed_more bs xs j e l m =
+    let f = byte_at (bs ++ xs) in
+    let n : (length (bs ++ xs) + 7) / 8 ≡ j + 1 = let a = length-append bs xs in omega arith in
+    let o : (length bs + 7) / 8 ≡ j = omega arith in
+    packed_counting (bs ++ xs) ∙ ap (λ k. map f (counting 0 k)) n ∙ map-range_with_len_more f 0 j j (omega arith)
+    ∙ ap (λ p. p ++ f j ∷ []) (bytes_same f (byte_at bs) j (λ i h. byte_before bs xs j i e h) ∙ ap (λ k. map (byte_at bs) (counting 0 k)) (sym o) ∙ sym (packed_counting bs))
+    ∙ ap (λ y. packed bs ++ y ∷ []) (byte_last bs xs j e m)
+
+-- the truth values of so many rows, row by row
+shown_length : (v : Option Bool → Bool) (f : ℕ → Option Bool) (n : ℕ) → length (map v (map f (count_up 0 n))) ≡ n
+shown_length v f n = length-map (map f (count_up 0 n)) v ∙ length-map (count_up 0 n) f ∙ ap length (count_up_counting 0 n) ∙ length-range_with_len 0 n
+
+shown_at : (v : Option Bool → Bool) (f : ℕ → Option Bool) (n k : ℕ) → k < n → get_or (map v (map f (count_up 0 n))) k false ≡ v (f k)
+shown_at v f n k h =
+    ap (λ l. get_or (map v (map f l)) k false) (count_up_counting 0 n)
+    ∙ get_or-map v (map f (counting 0 n)) k None false (let l = length-map-range_with_len f 0 n in omega arith)
+    ∙ ap v (get_or-map-range_with_len f 0 n k k None h (omega arith))
+
+shown_all : (v : Option Bool → Bool) (f : ℕ → Option Bool) (n : ℕ) (bs : List Bool) → length bs ≡ n → ((k : ℕ) → k < n → get_or bs k false ≡ v (f k)) → bs ≡ map v (map f (count_up 0 n))
+shown_all v f n bs e h = let l = shown_length v f n in ext_get_or false _ _ (omega arith) (λ k g. h k (omega arith) ∙ sym (shown_at v f n k (omega arith)))
+
+pub known_all : (f : ℕ → Option Bool) (n : ℕ) (bs : List Bool) → length bs ≡ n → ((k : ℕ) → k < n → (o : Option Bool) × (o ≡ f k) × (get_or bs k false ≡ is_some o)) → bs ≡ map known (map f (count_up 0 n))
+known_all f n bs e h = shown_all known f n bs e (λ k l. let t = h k l in t.2 ∙ go t.0 ∙ ap known t.1)
+  where
+    go : (o : Option Bool) → is_some o ≡ known o
+    go None = refl
+    go (Some b) = refl
+
+pub holds_all : (f : ℕ → Option Bool) (n : ℕ) (bs : List Bool) → length bs ≡ n → ((k : ℕ) → k < n → (o : Option Bool) × (o ≡ f k) × (get_or bs k false ≡ unwrap_or o false)) → bs ≡ map holds (map f (count_up 0 n))
+holds_all f n bs e h = shown_all holds f n bs e (λ k l. let t = h k l in t.2 ∙ go t.0 ∙ ap holds t.1)
+  where
+    go : (o : Option Bool) → unwrap_or o false ≡ holds o
+    go None = refl
+    go (Some b) = refl
 
 -- the room that truth values need
-pub flags_fit : (f : ℕ → Option Bool) (n : ℕ) (before : FlagParts)
-    → fits_flags (flags_laid f n) before ≡ flag_room n before
-flags_fit f n before = rw (packed_length (sides Known f n), packed_length (sides Holds f n), sides_length Known f n, sides_length Holds f n)
+pub flags_fit : (f : ℕ → Option Bool) (n : ℕ) (before : FlagParts) → fits_flags (flags_laid f n) before ≡ flag_room n before
+flags_fit f n before = rw (packed_length (map known (map f (count_up 0 n))), packed_length (map holds (map f (count_up 0 n))), shown_length known f n, shown_length holds f n)
 
 -- the cells that are there
-pub sides_there : {X : Type 0} (xs : List (Option X)) → sides Known (there_shown xs) (length xs) ≡ map is_some xs
-sides_there xs =
+pub there_all : {X : Type 0} (xs : List (Option X)) (bs : List Bool) → length bs ≡ length xs → ((k : ℕ) → k < length xs → (x : Option X) × (x ≡ get_or xs k x) × (get_or bs k false ≡ is_some x)) → bs ≡ map is_some xs
+there_all xs bs e h =
     let l = length-map xs is_some in
-    let m = sides_length Known (there_shown xs) (length xs) in
-    ext_get_or false _ _ (omega arith) (λ k h. sides_at Known (there_shown xs) (length xs) k (omega arith) ∙ go (get_or (map is_some xs) k false))
-  where
-    go : (b : Bool) → known (cond b (Some true) None) ≡ b
-    go true = refl
-    go false = refl
-
--- a cell that is read is there, or it is not
-pub there_told : {X : Type 0} (xs : List (Option X)) (k : ℕ) (d : Option X) (b : Bool) → k < length xs → b ≡ is_some (get_or xs k d) → cond b (Some true) None ≡ there_shown xs k
-there_told xs k d b h e = ap (λ t. cond t (Some true) None) (e ∙ sym (get_or-map is_some xs k d false h))
-
-pub there_not : {X : Type 0} (xs : List (Option X)) (k : ℕ) → length xs ≤ k → None ≡ there_shown xs k
-there_not xs k h = ap (λ t. cond t (Some true) None) (sym (get_or_past (map is_some xs) k false (simp length-map h)))
+    ext_get_or false _ _ (omega arith) (λ k g. let t = h k (omega arith) in t.2 ∙ ap is_some t.1 ∙ sym (get_or-map is_some xs k t.0 false (omega arith)))

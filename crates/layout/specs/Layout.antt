@@ -2,14 +2,20 @@
 --   Parts        the parts of an output column: the caller's buffers, or what is written to their fronts
 --   FlagParts   the two parts of an output column of truth values
 --   bytes_of     so many bytes of a number, the lowest first
---   number_bytes, field_bytes   the eight bytes of a number, and of a field that may be absent (has_field)
+--   number_bytes, field_bytes   the eight bytes of a number, and of a field that may be absent
 --   number_content, string_content, record_content   the bytes of one cell in a column of each kind
+--   bit          1 for true, 0 for false
+--   has_field    a field is there
+--   binary       the number whose bits these are, the lowest first
+--   offsets_from where each string begins and the last one ends
 --   packed       truth values as bits, eight to a byte, the lowest first, spare bits zero
 --   validity_of  the validity bits of cells: 1 where not null
 --   laid_out     the parts of a column of cells: validity bits always; for byte strings offsets from 0 on; a null's bytes zero, a null string of length 0
+--   known, holds  a truth value is not missing; it is there and true
 --   laid_flags   the same for truth values: whether one is known, and whether it holds; the value bit of a null is zero
 --   over         something written to the front of a buffer, the rest untouched
 --   written, written_flags   all parts written to the fronts of the buffers
+--   room         a buffer is as long as its part needs
 --   fits, fits_flags   each buffer has room for its part: the space that the parts need
 --   written_all, fits_all   the same of columns, each against the buffers in its place; a column without buffers does not fit
 --   short_column the number of the first column that does not fit its buffers, if there is one

@@ -4,22 +4,17 @@
 --   space_of       the space that parts need: a length for each
 --   roomy          buffers that have so much space
 --   numbers_laid   the parts of a column of numbers, given by optional numbers
---   there_shown    a truth value for each cell: true where the cell is there, missing where it is not
 --   flag_parts_seen   the caller's buffers for truth values
---   side_shown     whether a truth value is known, or whether it holds
---   sides          one side of the first so many truth values
 --   flag_room      buffers that have a bit for each of so many truth values, in both parts
 --   flags_laid     the parts of a column of the first so many truth values
-use Rattle.std.specs.Prelude.{ℕ, ◌+◌, ◌/◌, Bool, true, false, ◌&&◌, List, [], ◌∷◌, map, length, ℤ, is_some, Some, None, Option, nat_le, slice_index_or, if◌then◌else◌}
+use Rattle.std.specs.Prelude.{ℕ, ◌+◌, ◌/◌, Bool, ◌&&◌, List, [], ◌∷◌, map, length, ℤ, Option, nat_le}
 use Rattle.column.specs.Cells.{numbers, number_cell}
 use Rattle.column.specs.Columns.{count_up}
-use Rattle.layout.specs.Layout.{Parts, FlagParts, laid_out, laid_flags, known, holds}
+use Rattle.layout.specs.Layout.{Parts, FlagParts, laid_out, laid_flags}
 use Rattle.layout.specs.declared.FlagOutput.{FlagOutput}
 use Rattle.layout.specs.declared.KeyOutputs.{KeyOutputs}
 use Rattle.layout.specs.declared.Output.{Output}
 use Rattle.layout.specs.declared.Space.{Space}
-use Rattle.layout.specs.declared.flags.Side.{Side}
-use Rattle.layout.specs.declared.flags.Side.TheVariants.{Known, Holds}
 
 abbrev pub parts_seen : Output → Parts
 parts_seen o = record { validity = o.validity.now; offsets = o.offsets.now; content = o.«data».now }
@@ -41,16 +36,6 @@ flag_parts_seen o = record { validity = o.validity.now; bits = o.bits.now }
 
 abbrev pub flag_room : ℕ → FlagParts → Bool
 flag_room rows before = nat_le ((rows + 7) / 8) (length before.validity) && nat_le ((rows + 7) / 8) (length before.bits)
-
-abbrev pub side_shown : Side → Option Bool → Bool
-side_shown Known f = known f
-side_shown Holds f = holds f
-
-abbrev pub sides : Side → (ℕ → Option Bool) → ℕ → List Bool
-sides s flag rows = map (side_shown s) (map flag (count_up 0 rows))
-
-abbrev pub there_shown : {X : Type 0} → List (Option X) → ℕ → Option Bool
-there_shown xs k = if slice_index_or (map is_some xs) k false then Some true else None
 
 abbrev pub flags_laid : (ℕ → Option Bool) → ℕ → FlagParts
 flags_laid flag rows = laid_flags (map flag (count_up 0 rows))

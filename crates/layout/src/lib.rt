@@ -18,7 +18,7 @@ pub struct Output<'a> {
     pub data: &'a mut [u8],
 }
 
-// The caller's buffers for up to three key columns.
+// The caller's buffers for up to three key columns: three fields, since walks over an array of them were tried and their proofs did not close.
 #[derive(Drop)]
 pub struct KeyOutputs<'a> {
     pub first: Output<'a>,
@@ -39,6 +39,12 @@ pub struct Space {
     pub validity: usize,
     pub offsets: usize,
     pub data: usize,
+}
+
+// Why a column cannot be written out.
+#[derive(Clone, Copy)]
+pub enum OutputFault {
+    Space,
 }
 
 impl Space {

@@ -1,5 +1,5 @@
-use Rattle.std.proofs.Common.{◌≡◌, ◌<◌, ◌≤◌, map, length, get_or, None, refl, arith}
-use Rattle.std.proofs.lemmas.List.{length-map, get_or-map, take_all}
+use Rattle.std.proofs.Common.{◌≡◌, ◌<◌, map, length, get_or, None, refl, arith}
+use Rattle.std.proofs.lemmas.List.{length-map, get_or-map}
 use Rattle.column.specs.Cells.{null, number_cell}
 use Rattle.layout.specs.Layout.{number_content}
 use Rattle.layout.proofs.Overs.{over_joined}
@@ -16,9 +16,3 @@ loop-i-preserved c =
     let y : ys ≡ number_content (get_or cs i null) = cc in
     let e = over_joined number_content 8 content_length cs null c.args.out.now ys i 8 h refl y in
     grind arith
-
-pub returns : goal.returns
-returns c =
-    let cs = map number_cell c.args.cells.now in
-    let h : length cs ≤ c.loop-i.i = simp length-map (omega arith) in
-    let e = take_all c.loop-i.i cs h in cc

@@ -1,5 +1,0 @@
-use Rattle.std.proofs.Common.{add-one, rules}
-use Rattle.column.proofs.making.never_fall.Goals as goal
-
-pub loop-i-preserved : goal.loop-i-preserved
-loop-i-preserved c = rw add-one (search rules)
