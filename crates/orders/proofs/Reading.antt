@@ -1,13 +1,13 @@
 -- What a number order reads: its kinds, the numbers of a row, and a key of nulls.
-use Rattle.std.proofs.Common.{◌≡◌, ℕ, zero, suc, ◌<◌, ◌≤◌, List, [], ◌∷◌, map, length, get_or, take, None, sym, refl, ap, ◌∙◌, ap₂, arith}
-use Rattle.std.proofs.lemmas.List.{length-map, get_or-map}
+use Rattle.std.proofs.Common.{◌≡◌, ℕ, zero, suc, ◌≤◌, List, [], ◌∷◌, map, length, take, None, sym, refl, ap, ◌∙◌, ap₂, arith}
+use Rattle.std.proofs.lemmas.List.{length-map, length-take-le}
 use Rattle.column.specs.Cells.{numbers, null, number_cell}
 use Rattle.column.specs.Columns.{number_at}
 use Rattle.column.specs.declared.Column.{Column}
 use Rattle.column.specs.declared.Kind.TheVariants.{Number}
-use Rattle.column.specs.Seen.{kind_seen, column_seen, columns_seen}
+use Rattle.column.specs.Seen.{kind_seen, columns_seen}
 use Rattle.tables.specs.declared.Sorting.{Sorting}
-use Rattle.tables.proofs.Walking.{columns_long, column_is}
+use Rattle.tables.proofs.Walking.{columns_long}
 use Rattle.orders.specs.Keys.{row_numbers}
 
 -- by any function of the code's kinds, here and for a key of nulls
@@ -35,7 +35,6 @@ null_key ss n l = threes number_cell (λ s. null) None null ss n refl (λ s. ref
 pub row_long : (os : List Column) (n r : ℕ) → n ≤ length os → length (row_numbers (columns_seen os n) r) ≡ n
 row_long os n r l = length-map (columns_seen os n) (λ c. number_at c r) ∙ columns_long os n l
 
-pub row_at : (os : List Column) (n r j : ℕ) (d : Column) → j < n → n ≤ length os → get_or (row_numbers (columns_seen os n) r) j None ≡ number_at (column_seen (get_or os j d)) r
-row_at os n r j d h l =
-    let m = columns_long os n l in
-    get_or-map (λ c. number_at c r) (columns_seen os n) j (column_seen d) None (omega arith) ∙ ap (λ c. number_at c r) (column_is os n j d (column_seen d) h l)
+-- as many kinds as columns are read
+pub kinds_long : (ss : List Sorting) (n : ℕ) → n ≤ length ss → length (map (λ s. numbers) (take n ss)) ≡ n
+kinds_long ss n h = length-map (take n ss) (λ s. numbers) ∙ length-take-le n ss h

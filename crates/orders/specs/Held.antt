@@ -10,7 +10,7 @@ use Rattle.tables.specs.Delivered.{number_order}
 use Rattle.orders.specs.declared.order_table.NumberOrder.{NumberOrder}
 
 abbrev pub order_entries : NumberOrder → List (List Cell)
-order_entries o = map (λ k. map number_cell (take o.count k)) (take o.len o.keys)
+order_entries o = map (λ k. map number_cell (take o.count k)) o.keys
 
 abbrev pub order_settings : NumberOrder → Settings
 order_settings o = number_order (take o.count o.sorts)

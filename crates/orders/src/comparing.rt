@@ -10,33 +10,9 @@ pub(crate) fn compare_numbers(sort: Sorting, a: Option<i64>, b: Option<i64>) -> 
     ensures { result ≡ number_verdict sort a b }
 {
     match (a, b) {
-        (None, None) => Ordering::Equal,
-        (None, Some(_)) => if sort.nulls_first {
-            Ordering::Less
-        } else {
-            Ordering::Greater
-        },
-        (Some(_), None) => if sort.nulls_first {
-            Ordering::Greater
-        } else {
-            Ordering::Less
-        },
-        (Some(x), Some(y)) => {
-            if x < y {
-                if sort.descending {
-                    Ordering::Greater
-                } else {
-                    Ordering::Less
-                }
-            } else if y < x {
-                if sort.descending {
-                    Ordering::Less
-                } else {
-                    Ordering::Greater
-                }
-            } else {
-                Ordering::Equal
-            }
-        }
+        (Some(x), Some(y)) if sort.descending => y.cmp(&x),
+        (Some(x), Some(y)) => x.cmp(&y),
+        _ if sort.nulls_first => a.is_some().cmp(&b.is_some()),
+        _ => b.is_some().cmp(&a.is_some()),
     }
 }

@@ -6,17 +6,14 @@ ghost use Rattle.tables.specs.declared.OrderFault.TheVariants as order;
 ghost use Rattle.orders.specs.Held.{order_entries, order_settings, one_to_three, columns_read};
 
 use crate::order_table::NumberOrder;
-use tables::{GroupTable, OrderFault, Sorting, check_drop, check_grow};
+use tables::{Entries, GroupTable, OrderFault, Sorting, check_count};
 
 impl NumberOrder {
     // Whether a number order can read so many columns: COLS.
     pub fn check(count: usize) -> Result<(), OrderFault>
         ensures { result ≡ outcome (refuse (not (one_to_three count)) order.Cols) tt }
     {
-        if count < 1 || count > 3 {
-            return Err(OrderFault::Cols);
-        }
-        Ok(())
+        check_count(count, count)
     }
 
     // An order of no group over the first `count` sortings; over the first alone where that is declined.
@@ -24,12 +21,15 @@ impl NumberOrder {
         ensures entries { order_entries result ≡ [] }
         ensures settings { order_settings result ≡ number_order (take (columns_read count) sorts) }
     {
-        let count = if count < 1 || count > 3 { 1 } else { count };
+        let count = if NumberOrder::check(count).is_ok() {
+            count
+        } else {
+            1
+        };
         NumberOrder {
             sorts,
             count,
-            keys: [[None; 3]; 256],
-            len: 0,
+            keys: Entries::new([None; 3]),
         }
     }
 }
@@ -44,7 +44,7 @@ impl GroupTable for NumberOrder {
     ghost declines = { order.Table };
 
     fn groups(&self) -> usize {
-        self.len
+        self.keys.len()
     }
 
     fn columns(&self) -> usize {
@@ -52,22 +52,10 @@ impl GroupTable for NumberOrder {
     }
 
     fn grow(&mut self, total: usize) -> Result<(), OrderFault> {
-        if let Err(fault) = check_grow(self.len, total) {
-            return Err(OrderFault::Table(fault));
-        }
-        for i in self.len..total {
-            self.keys[i] = [None; 3];
-        }
-        self.len = total;
-        Ok(())
+        Ok(self.keys.grow(total, [None; 3])?)
     }
 
     fn drop_first(&mut self, n: usize) -> Result<(), OrderFault> {
-        if let Err(fault) = check_drop(self.len, n) {
-            return Err(OrderFault::Table(fault));
-        }
-        self.keys[0..self.len].rotate_left(n);
-        self.len -= n;
-        Ok(())
+        Ok(self.keys.drop_first(n)?)
     }
 }

@@ -1,11 +1,11 @@
 // The number order as a row order.
-ghost use Rattle.std.specs.Prelude.{◌≡◌, ◌-◌, ◌<◌, ◌≤◌, ◌++◌, take, replicate, None, slice_index_or};
+ghost use Rattle.std.specs.Prelude.{◌≡◌, ◌-◌, ◌<◌, ◌≤◌, ◌++◌, map, length, take, replicate, None};
 ghost use Rattle.column.specs.Checks.{outcome};
-ghost use Rattle.column.specs.Seen.{columns_seen};
+ghost use Rattle.column.specs.Seen.{columns_seen, kind_seen};
 ghost use Rattle.tables.specs.Refusals.{measuring_key};
 ghost use Rattle.orders.specs.Held.{order_entries, order_settings};
 ghost use Rattle.orders.specs.Comparing.{lex};
-ghost use Rattle.orders.specs.Keys.{row_numbers, other_numbers, Within, column_numbers};
+ghost use Rattle.orders.specs.Keys.{row_numbers, column_numbers};
 ghost use Rattle.tables.proofs.Ordering.{number_order_laws};
 
 use crate::comparing::compare_numbers;
@@ -13,71 +13,59 @@ use crate::order_table::NumberOrder;
 use column::{Column, Kind};
 use layout::{Output, Space};
 use std::cmp::Ordering;
-use tables::{GroupTable, OrderFault, RowOrder, check_drop, check_key, check_named};
+use tables::{OrderFault, RowOrder, check_drop, check_held_key, check_key, check_named};
 
-const KINDS: [Kind; 3] = [Kind::Number, Kind::Number, Kind::Number];
-
-// What the key of a row is compared with: the key of another row, or that of a held group.
-#[derive(Clone, Copy)]
-enum Other {
-    Row(usize),
-    Held(usize),
-}
+// A number order reads numbers in each of its columns.
+const KINDS: [Kind; 3] = [Kind::Number; 3];
 
 impl NumberOrder {
-    // The other key's number in column `j`.
-    fn other_number(&self, columns: [Column; 3], other: Other, j: usize) -> Option<i64>
-        requires { (j < self.now.count) × (Within self.now.len other) }
-        ensures { result ≡ slice_index_or (other_numbers self.now columns.entry other) j None }
+    // The kinds of the columns that are read.
+    fn kinds(&self) -> &[Kind]
+        ensures { map kind_seen result.now ≡ (order_settings self.now).kinds }
     {
-        match other {
-            Other::Row(row) => columns[j].number(row),
-            Other::Held(group_idx) => self.keys[group_idx][j],
-        }
+        &KINDS[..self.count]
     }
 
-    // How the key of a row stands to the other key: the columns are left at the first one that differs.
-    fn compare(&self, columns: [Column; 3], row: usize, other: Other) -> Ordering
-        requires { Within self.now.len other }
-        ensures { result ≡ lex (take self.now.count self.now.sorts) (row_numbers (columns_seen columns.entry self.now.count) row) (other_numbers self.now columns.entry other) }
+    // How one key stands to another: the columns are left at the first one that differs.
+    fn compare(&self, a: &[Option<i64>; 3], b: &[Option<i64>; 3]) -> Ordering
+        ensures { result ≡ lex (take self.now.count self.now.sorts) a.now b.now }
     {
+        // A loop that breaks with its verdict is the form that the project's rules name.
         let mut j = 0;
         loop {
             if j >= self.count {
                 break Ordering::Equal;
             }
-            let here = compare_numbers(
-                self.sorts[j],
-                columns[j].number(row),
-                self.other_number(columns, other, j),
-            );
-            if let Ordering::Equal = here {
-                j += 1;
-            } else {
+            let here = compare_numbers(self.sorts[j], a[j], b[j]);
+            if here != Ordering::Equal {
                 break here;
             }
+            j += 1;
         }
     }
 
     // The key of a row, nulls past the columns that are read.
+    // It takes the array of three, since else each caller would cut the array itself: no plainer.
     fn key(&self, columns: [Column; 3], row: usize) -> [Option<i64>; 3]
         ensures { result ≡ row_numbers (columns_seen columns.entry self.now.count) row ++ replicate (3 - self.now.count) None }
     {
+        // By index: a loop over key.iter_mut() beside the columns was tried, and its proof did not close.
         let mut key = [None; 3];
-        for j in 0..self.count {
-            key[j] = columns[j].number(row);
+        for (j, column) in columns[..self.count].iter().enumerate() {
+            key[j] = column.number(row);
         }
         key
     }
 
     // The first `n` numbers of key column `named`, nulls past them.
     fn key_column(&self, named: usize, n: usize) -> [Option<i64>; 256]
-        requires { (named < self.now.count) × (n ≤ self.now.len) }
+        requires { (named < self.now.count) × (n ≤ length self.now.keys) }
         ensures { result ≡ column_numbers named (take n self.now.keys) ++ replicate (256 - n) None }
     {
+        // A fixed table, since the project allows no heap in an order; by index, as in key.
         let mut column = [None; 256];
-        for i in 0..n {
-            column[i] = self.keys[i][named];
+        for (i, key) in self.keys.as_slice()[..n].iter().enumerate() {
+            column[i] = key[named];
         }
         column
     }
@@ -89,10 +77,7 @@ impl NumberOrder {
         if named >= self.count {
             return Err(OrderFault::Cols);
         }
-        if let Err(fault) = check_drop(self.len, n) {
-            return Err(OrderFault::Table(fault));
-        }
-        Ok(())
+        Ok(check_drop(self.keys.len(), n)?)
     }
 }
 
@@ -100,7 +85,7 @@ impl RowOrder for NumberOrder {
     ghost lawful = { λ o. number_order_laws (take o.count o.sorts) };
 
     fn reads_named(&self, named: usize, column: &Column) -> Result<(), OrderFault> {
-        check_named(&KINDS[0..self.count], named, column)
+        check_named(self.kinds(), named, column)
     }
 
     fn takes_named(&self, named: usize, column: &Column, row: usize) -> Result<(), OrderFault> {
@@ -118,8 +103,8 @@ impl RowOrder for NumberOrder {
         a: usize,
         b: usize,
     ) -> Result<Ordering, OrderFault> {
-        check_key(&KINDS[0..self.count], false, columns, count, a, b)?;
-        Ok(self.compare(columns, a, Other::Row(b)))
+        check_key(self.kinds(), columns, count, &[a, b])?;
+        Ok(self.compare(&self.key(columns, a), &self.key(columns, b)))
     }
 
     fn compare_held(
@@ -129,15 +114,9 @@ impl RowOrder for NumberOrder {
         count: usize,
         row: usize,
     ) -> Result<Ordering, OrderFault> {
-        check_key(
-            &KINDS[0..self.count],
-            group_idx >= self.len,
-            columns,
-            count,
-            row,
-            row,
-        )?;
-        Ok(self.compare(columns, row, Other::Held(group_idx)))
+        let held = self.keys.as_slice();
+        check_held_key(self.kinds(), held.len(), group_idx, columns, count, &[row])?;
+        Ok(self.compare(&self.key(columns, row), &held[group_idx]))
     }
 
     fn set_key(
@@ -147,33 +126,27 @@ impl RowOrder for NumberOrder {
         count: usize,
         row: usize,
     ) -> Result<(), OrderFault> {
-        check_key(
-            &KINDS[0..self.count],
-            group_idx >= self.len,
+        check_held_key(
+            self.kinds(),
+            self.keys.len(),
+            group_idx,
             columns,
             count,
-            row,
-            row,
+            &[row],
         )?;
-        self.keys[group_idx] = self.key(columns, row);
+        let key = self.key(columns, row);
+        self.keys.set(group_idx, key);
         Ok(())
     }
 
     fn key_space(&self, named: usize, n: usize) -> Result<Space, OrderFault> {
         self.check_column(named, n)?;
-        Ok(Space {
-            validity: (n + 7) / 8,
-            offsets: 0,
-            data: 8 * n,
-        })
+        Ok(self.keys.number_space(n)?)
     }
 
     fn write_key(&self, named: usize, n: usize, out: &mut Output) -> Result<(), OrderFault> {
         self.check_column(named, n)?;
         let column = self.key_column(named, n);
-        if !out.put_numbers(&column[0..n]) {
-            return Err(OrderFault::Space);
-        }
-        Ok(())
+        Ok(out.put_numbers(&column[..n])?)
     }
 }

@@ -1,24 +1,23 @@
 -- What a table's calls decline, case by case.
-use Rattle.std.proofs.Common.{◌≡◌, ℕ, ◌<◌, ◌≤◌, Bool, true, false, not, ◌||◌, List, [], ◌∷◌, map, length, get_or, IsErrAnd, Some, None, Ok, Err, Option, Result, sym, refl, ap, ◌∙◌, arith}
+use Rattle.std.proofs.Common.{◌≡◌, ℕ, ◌<◌, ◌≤◌, Bool, true, false, not, List, [], ◌∷◌, map, length, get_or, IsErrAnd, Some, None, Ok, Err, Option, Result, sym, refl, ap, ◌∙◌, arith}
 use Rattle.std.proofs.lemmas.List.{length-map, get_or-map}
-use Rattle.std.proofs.lemmas.Bool.{lt-ltb, le-ltb, ltb-false, le-leb, lt-leb}
+use Rattle.std.proofs.lemmas.Bool.{le-ltb, ltb-false, le-leb, lt-leb}
 use Rattle.std.proofs.lemmas.Result.{err_from_is_err_and}
 use Rattle.std.specs.Option.{option_map}
 use Rattle.column.specs.Checks.{outcome, unless_refused, refuse, first_of}
-use Rattle.column.specs.Cells.{Kind, Cell, same_kind}
+use Rattle.column.specs.Cells.{Cell, same_kind}
 use Rattle.column.specs.declared.Kind as code
 use Rattle.column.specs.Seen.{kind_seen}
 use Rattle.layout.specs.Layout.{Parts, fits}
 use Rattle.column.specs.Columns.{Column}
 use Rattle.tables.specs.declared.TableFault.{TableFault}
-use Rattle.tables.specs.declared.TableFault.TheVariants as table
 use Rattle.tables.specs.declared.StateFault.{StateFault}
 use Rattle.tables.specs.declared.StateFault.TheVariants as state
 use Rattle.tables.specs.declared.OrderFault.TheVariants as order
 use Rattle.tables.specs.Meaning.{Settings}
-use Rattle.tables.specs.Refusals.{growing, dropping, key_unfit, key_refused, past_column, untaken, writing, cells_laid, named_unread}
+use Rattle.tables.specs.Refusals.{growing, dropping, writing, cells_laid, named_unread}
 
-some≢none : {F : Type 0} {f : F} → Some f ≡ None → ⊥
+pub some≢none : {F : Type 0} {f : F} → Some f ≡ None → ⊥
 some≢none e = let z : ◌≡◌ {A = ℕ} 0 1 = cc in omega arith
 
 -- Answers and effects by the check
@@ -53,6 +52,10 @@ pub first_passed : {F : Type 0} (o : Option F) (os : List (Option F)) → first_
 first_passed None os e = (refl, e)
 first_passed (Some f) os e = absurd (some≢none e)
 
+-- what a check that declines says
+pub first_declined : {F : Type 0} {f : F} (o : Option F) (os : List (Option F)) → o ≡ Some f → first_of (o ∷ os) ≡ Some f
+first_declined o os e = rw e
+
 pub refuse_passed : {F : Type 0} (b : Bool) (f : F) → refuse b f ≡ None → b ≡ false
 refuse_passed true f e = absurd (some≢none e)
 refuse_passed false f e = refl
@@ -63,22 +66,6 @@ never_last None b f h = rw (h refl)
 never_last (Some g) b f h = refl
 
 -- Growing and dropping
-
-pub grow_total : (held total : ℕ) → 256 < total → growing held total ≡ Some table.Total
-unfolding growing
-grow_total held total h = rw (lt-ltb 256 total h)
-
-pub grow_shrunk : (held total : ℕ) → total ≤ 256 → total < held → growing held total ≡ Some table.Shrunk
-unfolding growing
-grow_shrunk held total h k = rw (le-ltb 256 total h, lt-ltb total held k)
-
-pub grow_fine : (held total : ℕ) → total ≤ 256 → held ≤ total → growing held total ≡ None
-unfolding growing
-grow_fine held total h k = rw (le-ltb 256 total h, le-ltb total held k)
-
-pub drop_fewer : (held n : ℕ) → held < n → dropping held n ≡ Some table.Fewer
-unfolding dropping
-drop_fewer held n h = rw (lt-ltb held n h)
 
 pub drop_fine : (held n : ℕ) → n ≤ held → dropping held n ≡ None
 unfolding dropping
@@ -93,19 +80,6 @@ unfolding growing
 grow_within held total e =
     let p = first_passed _ _ e in
     (ltb-false 256 total (refuse_passed _ _ p.0), ltb-false total held (refuse_passed _ _ (first_passed _ _ p.1).0))
-
-twice : (b : Bool) → (b || (b || false)) ≡ (b || false)
-twice true = refl
-twice false = refl
-
--- a row that is looked at twice is looked at once
-pub unfit_once : (ks : List Kind) (out : Bool) (cs : List Column) (n r : ℕ) → key_unfit ks out cs n (r ∷ r ∷ []) ≡ key_unfit ks out cs n (r ∷ [])
-unfolding key_unfit
-unfit_once ks out cs n r = rw (twice (past_column cs r))
-
-pub key_once : (s : Settings) (out : Bool) (cs : List Column) (n r : ℕ) → key_refused s out cs n (r ∷ r ∷ []) ≡ key_refused s out cs n (r ∷ [])
-unfolding key_refused
-key_once s out cs n r = rw (unfit_once s.kinds out cs n r, twice (untaken s cs r))
 
 -- what can be written out can be dropped
 pub written_dropped : (s : Settings) (es : List (List Cell)) (n : ℕ) (before : Parts) → writing s es n before ≡ None → dropping (length es) n ≡ None

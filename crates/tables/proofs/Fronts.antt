@@ -1,45 +1,29 @@
 -- The front of a fixed table, of which the first so many elements count, after a drop, a growth and a set.
-use Rattle.std.proofs.Common.{◌≡◌, ℕ, zero, suc, ◌+◌, ◌-◌, ◌<◌, ◌≤◌, List, [], ◌∷◌, ◌++◌, map, length, get_or, take, drop, set, replicate, sym, refl, ap, ◌∙◌, ap₂, ⊎_elim, arith}
-use Rattle.std.proofs.lemmas.List.{length-take-le, length-drop, length-append, length-replicate, get_or-take, get_or_append_left, get_or-append_right, get_or-replicate, ext_get_or, take-append-le, take_all, length-map, map-append, drop-map, map-set, get_or-map, append-nil, append_assoc, take_more, take_more_set, replicate_more, set-append_right}
-use Rattle.std.proofs.lemmas.Bool.{cases_lt}
+use Rattle.std.proofs.Common.{◌≡◌, ℕ, zero, suc, ◌+◌, ◌-◌, ◌<◌, ◌≤◌, List, [], ◌∷◌, ◌++◌, map, length, get_or, take, drop, set, replicate, Option, Some, None, sym, refl, ap, ◌∙◌, ap₂, arith}
+use Rattle.std.proofs.lemmas.List.{length-take-le, length-drop, take_at, drop-take, length-replicate, length-map, map-append, drop-map, append_assoc, take_more, set-append_right}
+use Rattle.std.proofs.lemmas.Slice.{take-put_mid}
+use Rattle.std.specs.List.{copy_within}
+use borrow.Rule.Slice.PartMut.{put_mid}
 use Rattle.column.specs.Cells.{Kind, Cell, null}
-use Rattle.tables.specs.Refusals.{grown_entries}
+use Rattle.column.specs.Checks.{unless_refused}
+use Rattle.tables.specs.Refusals.{growing, grown_entries, dropping}
 
--- the front, turned round by n
-pub front_dropped : {X : Type 0} (xs front rest : List X) (len n : ℕ) → n ≤ len → len ≤ length xs → front ≡ drop n (take len xs) ++ take n (take len xs) → take (len - n) (front ++ rest) ≡ drop n (take len xs)
-front_dropped xs front rest len n h l e =
-    let a = length-take-le len xs l in
-    let b = length-drop n (take len xs) in
-    let c = length-append (drop n (take len xs)) (take n (take len xs)) in
-    ap (λ f. take (len - n) (f ++ rest)) e
-    ∙ take-append-le (len - n) (drop n (take len xs) ++ take n (take len xs)) rest (omega arith)
-    ∙ take-append-le (len - n) (drop n (take len xs)) (take n (take len xs)) (omega arith)
-    ∙ take_all (len - n) (drop n (take len xs)) (omega arith)
+-- the front without its first n, moved to the start
+pub front_moved : {X : Type 0} (xs : List X) (len n : ℕ) → n ≤ len → len ≤ length xs → take (len - n) (copy_within xs n len 0) ≡ drop n (take len xs)
+front_moved xs len n h l =
+    let d = length-drop n xs in
+    take_at (take (len - n) (drop n xs)) (drop (0 + (len - n)) xs) (len - n) (length-take-le (len - n) (drop n xs) (omega arith))
+    ∙ sym (drop-take n (len - n) xs)
+    ∙ ap (λ k. drop n (take k xs)) (let z : n + (len - n) ≡ len = omega arith in z)
 
--- ys is xs with x from len up to the total
-pub front_grown : {X : Type 0} (xs ys : List X) (x : X) (len total : ℕ) → len ≤ total → total ≤ length ys → len ≤ length xs
-    → ((k : ℕ) → k < len → get_or ys k x ≡ get_or xs k x) → ((k : ℕ) → len ≤ k → k < total → get_or ys k x ≡ x)
-    → take total ys ≡ take len xs ++ replicate (total - len) x
-front_grown xs ys x len total le fit l below here =
-    let a = length-take-le total ys fit in
-    let b = length-take-le len xs l in
-    let r = length-replicate (total - len) x in
-    let s = length-append (take len xs) (replicate (total - len) x) in
-    ext_get_or x _ _ (omega arith) (λ i lt. get_or-take total ys i x (omega arith) ∙ ⊎_elim
-    (λ u. below i u ∙ sym (get_or-take len xs i x u) ∙ sym (get_or_append_left (take len xs) (replicate (total - len) x) x i (omega arith)))
-    (λ u. here i u (omega arith) ∙ sym (get_or-append_right (take len xs) (replicate (total - len) x) len i x b u ∙ get_or-replicate (total - len) (i - len) x x (omega arith)))
-    (cases_lt i len))
-
--- the same, one element after the other
-pub grown_none : {X : Type 0} (xs : List X) (x : X) (len : ℕ) → take len xs ≡ take len xs ++ replicate (len - len) x
-grown_none xs x len = sym (ap (λ n. take len xs ++ replicate n x) (let z : len - len ≡ 0 = omega arith in z) ∙ append-nil (take len xs))
-
-pub grown_next : {X : Type 0} (xs ys : List X) (x : X) (len i : ℕ) → len ≤ i → i < length ys → take i ys ≡ take len xs ++ replicate (i - len) x → take (i + 1) (set ys i x) ≡ take len xs ++ replicate (i + 1 - len) x
-grown_next xs ys x len i h l e =
-    take_more_set ys i x l
-    ∙ ap (λ r. r ++ (x ∷ [])) e
-    ∙ append_assoc (take len xs) (replicate (i - len) x) (x ∷ [])
-    ∙ ap (λ r. take len xs ++ r) (replicate_more (i - len) x ∙ ap (λ n. replicate n x) (let z : i - len + 1 ≡ i + 1 - len = omega arith in z))
+-- the places from len up to the total, written over by x
+pub front_filled : {X : Type 0} (xs ys : List X) (x : X) (len total : ℕ) → len ≤ total → total ≤ length xs → ys ≡ replicate (length (take (total - len) (drop len xs))) x
+    → take total (put_mid len (total - len) xs ys) ≡ take len xs ++ replicate (total - len) x
+front_filled xs ys x len total h l e =
+    let d = length-drop len xs in
+    let q = e ∙ ap (λ k. replicate k x) (length-take-le (total - len) (drop len xs) (omega arith)) in
+    let m = ap length q ∙ length-replicate (total - len) x in
+    take-put_mid len (total - len) xs ys total (omega arith) (omega arith) ∙ ap (λ r. take len xs ++ r) q
 
 pub front_set : {X : Type 0} (xs : List X) (len g : ℕ) (x : X) → g < len → take len (set xs g x) ≡ set (take len xs) g x
 front_set [] zero g x h = refl
@@ -48,39 +32,30 @@ front_set (y ∷ xs) zero g x h = absurd (omega arith)
 front_set (y ∷ xs) (suc len) zero x h = refl
 front_set (y ∷ xs) (suc len) (suc g) x h = ap (λ l. y ∷ l) (front_set xs len g x (omega arith))
 
--- The entries of a table whose elements stand for an entry each
+mapped : {F X Y : Type 0} (f : X → Y) (o : Option F) (new old : List X) → map f (unless_refused o new old) ≡ unless_refused o (map f new) (map f old)
+mapped f None new old = refl
+mapped f (Some r) new old = refl
 
-pub held_long : {X Y : Type 0} (f : X → Y) (xs : List X) (len : ℕ) → len ≤ length xs → length (map f (take len xs)) ≡ len
-held_long f xs len l = length-map (take len xs) f ∙ length-take-le len xs l
+-- The entries of a table whose elements stand for an entry each, after the table's own calls
 
-pub held_at : {X Y : Type 0} (f : X → Y) (xs : List X) (len g : ℕ) (d : X) (e : Y) → len ≤ length xs → g < len → get_or (map f (take len xs)) g e ≡ f (get_or xs g d)
-held_at f xs len g d e l h = let a = length-take-le len xs l in get_or-map f (take len xs) g d e (omega arith) ∙ ap f (get_or-take len xs g d h)
+pub held_dropped : {X Y : Type 0} (f : X → Y) (xs ys : List X) (n : ℕ) → ys ≡ unless_refused (dropping (length xs) n) (drop n xs) xs
+    → map f ys ≡ unless_refused (dropping (length (map f xs)) n) (drop n (map f xs)) (map f xs)
+held_dropped f xs ys n e =
+    ap (map f) e
+    ∙ mapped f (dropping (length xs) n) (drop n xs) xs
+    ∙ ap₂ (λ k zs. unless_refused (dropping k n) zs (map f xs)) (sym (length-map xs f)) (sym (drop-map f n xs))
 
-pub held_dropped : {X Y : Type 0} (f : X → Y) (xs front rest : List X) (len n : ℕ) → n ≤ len → len ≤ length xs → front ≡ drop n (take len xs) ++ take n (take len xs)
-    → map f (take (len - n) (front ++ rest)) ≡ drop n (map f (take len xs))
-held_dropped f xs front rest len n h l e = ap (map f) (front_dropped xs front rest len n h l e) ∙ sym (drop-map f n (take len xs))
-
-pub held_grown : {X : Type 0} (f : X → List Cell) (ks : List Kind) (xs ys : List X) (x : X) (len total : ℕ) → f x ≡ map (λ k. null) ks → len ≤ length xs → take total ys ≡ take len xs ++ replicate (total - len) x
-    → map f (take total ys) ≡ grown_entries ks (map f (take len xs)) total
-held_grown {X = X} f ks xs ys x len total e l g =
+pub held_grown : {X : Type 0} (f : X → List Cell) (ks : List Kind) (xs ys : List X) (x : X) (total : ℕ) → f x ≡ map (λ k. null) ks → ys ≡ unless_refused (growing (length xs) total) (xs ++ replicate (total - length xs) x) xs
+    → map f ys ≡ unless_refused (growing (length (map f xs)) total) (grown_entries ks (map f xs) total) (map f xs)
+held_grown {X = X} f ks xs ys x total e g =
     ap (map f) g
-    ∙ map-append f (take len xs) (replicate (total - len) x)
-    ∙ ap (λ r. map f (take len xs) ++ r) (each (total - len) ∙ ap (replicate (total - len)) e)
-    ∙ ap (λ k. map f (take len xs) ++ replicate (total - k) (map (λ k. null) ks)) (sym (held_long f xs len l))
+    ∙ mapped f (growing (length xs) total) (xs ++ replicate (total - length xs) x) xs
+    ∙ ap (λ zs. unless_refused (growing (length xs) total) zs (map f xs)) (map-append f xs (replicate (total - length xs) x) ∙ ap (λ r. map f xs ++ r) (each (total - length xs) ∙ ap (replicate (total - length xs)) e))
+    ∙ ap (λ k. unless_refused (growing k total) (map f xs ++ replicate (total - k) (map (λ k. null) ks)) (map f xs)) (sym (length-map xs f))
   where
     each : (n : ℕ) → map f (replicate n x) ≡ replicate n (f x)
     each zero = refl
     each (suc n) = ap (λ r. f x ∷ r) (each n)
-
-pub held_set : {X Y : Type 0} (f : X → Y) (xs : List X) (len g : ℕ) (x : X) → g < len → map f (take len (set xs g x)) ≡ set (map f (take len xs)) g (f x)
-held_set f xs len g x h = ap (map f) (front_set xs len g x h) ∙ map-set f (take len xs) g x
-
--- a front that is written over keeps the table's length
-pub front_whole : {X : Type 0} (xs front : List X) (len : ℕ) → len ≤ length xs → length front ≡ length (take len xs) → length (front ++ drop len xs) ≡ length xs
-front_whole xs front len l e =
-    let a = length-take-le len xs l in
-    let b = length-drop len xs in
-    let c = length-append front (drop len xs) in omega arith
 
 -- An array of x that is filled front to back with the elements of a list
 
@@ -93,6 +68,3 @@ gather_next xs ys x d m i h l e =
     ∙ ap₂ (λ n k. take i xs ++ set (replicate n x) k y) (let z : m - i ≡ suc (m - (i + 1)) = omega arith in z) (let z : i - i ≡ 0 = omega arith in z)
     ∙ sym (append_assoc (take i xs) (y ∷ []) r)
     ∙ ap (λ z. z ++ r) (sym (take_more xs i d h))
-
-pub gather_end : {X : Type 0} (xs ys : List X) (x : X) (m n : ℕ) → length xs ≤ n → ys ≡ take n xs ++ replicate (m - n) x → ys ≡ xs ++ replicate (m - n) x
-gather_end xs ys x m n h e = e ∙ ap (λ z. z ++ replicate (m - n) x) (take_all n xs h)

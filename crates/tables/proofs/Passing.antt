@@ -1,8 +1,8 @@
 -- What the checks of a column, of a key and of an output say where they pass, and how a cell that is always taken leaves them.
-use Rattle.std.proofs.Common.{◌≡◌, ℕ, ◌<◌, ◌≤◌, Bool, true, false, not, ◌&&◌, eqb, ltb, leb, List, [], ◌∷◌, length, get_or, Some, None, Option, refl, ap}
+use Rattle.std.proofs.Common.{◌≡◌, ℕ, ◌<◌, ◌≤◌, Bool, true, false, not, ◌&&◌, eqb, ltb, leb, List, [], ◌∷◌, length, get_or, Some, None, Ok, Err, Option, sym, refl, ap}
 use Rattle.std.proofs.lemmas.Bool.{eqb-true, le-leb, lt-leb, leb-true, leb-false, ltb-true, not-false, and_parts}
 use Rattle.std.specs.Option.{option_map}
-use Rattle.column.specs.Checks.{refuse, first_of}
+use Rattle.column.specs.Checks.{outcome, refuse, first_of}
 use Rattle.column.specs.Cells.{Kind, Cell, same_kind}
 use Rattle.column.specs.Columns.{Column, cell_at}
 use Rattle.layout.specs.Layout.{Parts, fits}
@@ -12,7 +12,9 @@ use Rattle.tables.specs.declared.OrderFault.{OrderFault}
 use Rattle.tables.specs.declared.OrderFault.TheVariants as order
 use Rattle.tables.specs.Meaning.{Settings, state_of}
 use Rattle.tables.specs.Refusals.{dropping, cell_unfit, cell_refused, cells_laid, writing, other_kind, named_unread, named_refused, some_column, some_of, past_column, untaken, key_unfit, key_refused, key_laid, measuring_key, writing_key}
-use Rattle.tables.proofs.Declining.{first_passed, refuse_passed, never_last}
+use Rattle.layout.specs.declared.OutputFault.{OutputFault}
+use Rattle.layout.specs.declared.OutputFault.TheVariants as output
+use Rattle.tables.proofs.Declining.{some≢none, passed, declined, first_passed, refuse_passed, never_last}
 
 pub record CellPassed (k : Kind) (out : Bool) (c : Column) (r : ℕ) : Type 0 where
   pub held : out ≡ false
@@ -133,3 +135,13 @@ writing_key_short s es j n before e h = rw (e, h)
 pub writing_key_fine : (s : Settings) (es : List (List Cell)) (j n : ℕ) (before : Parts) → measuring_key s es j n ≡ None → fits (key_laid s es j n) before ≡ true → writing_key s es j n before ≡ None
 unfolding writing_key
 writing_key_fine s es j n before e h = rw (e, h)
+
+-- What an output's own answer says of its room
+
+pub put_fails : (b : Bool) (f : OutputFault) → Err f ≡ outcome (refuse (not b) output.Space) (tt {0}) → b ≡ false
+put_fails true f e = absurd (some≢none (sym (declined (refuse (not true) output.Space) f (tt {0}) e)))
+put_fails false f e = refl
+
+pub put_fits : (b : Bool) → Ok (tt {0}) ≡ outcome (refuse (not b) output.Space) (tt {0}) → b ≡ true
+put_fits true e = refl
+put_fits false e = absurd (some≢none (passed (refuse (not false) output.Space) (tt {0}) (tt {0}) e))

@@ -17,11 +17,11 @@ use Rattle.tables.proofs.Declining.{declined, first_passed, refuse_passed, passe
 use Rattle.tables.proofs.Passing.{writing_key_fine}
 
 -- the answer of a call that passes, and a refusal of one that does
-measured : {F X : Type 0} (o : Option F) (x y : X) → Ok x ≡ outcome o y → x ≡ y
+pub measured : {F X : Type 0} (o : Option F) (x y : X) → Ok x ≡ outcome o y → x ≡ y
 measured None x y e = cc
 measured (Some f) x y e = cc
 
-never_declined : {F X : Type 0} (o : Option F) (f : F) (y : X) → o ≡ None → Err f ≡ outcome o y → ⊥
+pub never_declined : {F X : Type 0} (o : Option F) (f : F) (y : X) → o ≡ None → Err f ≡ outcome o y → ⊥
 never_declined o f y h e = let s = declined o f y e in let z : ◌≡◌ {A = ℕ} 0 1 = cc in omega arith
 
 -- Taking
@@ -82,9 +82,6 @@ module _ (s : Settings) (es : List (List Cell)) (n j : ℕ) where
   pub put_written : (o new : Parts) → j < length s.kinds → dropping (length es) n ≡ None → room_at s.kinds es n j o ≡ true
       → new ≡ unless_refused (writing_key s es j n o) (written (key_laid s es j n) o) o → new ≡ put_at s.kinds es n j o
   put_written o new h d r e = rw (lt-leb (length s.kinds) j h) (e ∙ sym (passed_new _ _ _ (writing_fits o h d r)))
-
-  pub put_none : (o : Parts) → length s.kinds ≤ j → o ≡ put_at s.kinds es n j o
-  put_none o h = rw (le-leb (length s.kinds) j h)
 
 -- Three outputs
 

@@ -2,9 +2,13 @@
 --   sorted_leq    values by a relation, turned round where `descending`; nulls are equal to each other, below every value with nulls first and else above
 --   head_cell, tail_cells   the first cell of a key and the others
 --   by_columns    the first column that differs decides
+--   as_number, as_text   what a cell shows as a number or as bytes: a cell of another kind counts as null
 --   number_leq    one column of numbers, sorted
 --   bytes_leq     byte strings byte by byte, as unsigned numbers; a proper prefix is smaller
 --   text_leq      one column of byte strings, sorted
+--   fits_64, all_bytes   a number of 64 bits; every element is a byte
+--   takes_field   a field that is absent, or a number of 64 bits
+--   takes_one_text   what a text order takes in its one column, and null in any other
 --   takes_number, takes_text, takes_record   a number of 64 bits; a string of at most 32 bytes; a record whose fields are numbers of 64 bits; or null
 --   number_state  reads numbers, and takes every one and null
 --   bytes_state   reads byte strings, and takes every one of at most 32 bytes and null

@@ -3,8 +3,8 @@
 --   StateMeaning, state_of   a value state by its settings: the kind of the one column that it reads, and the cells that it takes
 --   StateLaws    a value state takes null, and takes no cell that a column of its kind could not show
 --   OrderLaws    the same of a row order in each column, and that its relation is total and transitive
---   entry         what a table holds for a group: a cell for each column read
---   first_cells   the cells of a value state, which has one in each entry
+--   first_cells   the cells of a value state, which has one in each entry, that is in what is held for a group
+--   column_cells  the cells of one key column, which each entry has one of
 use Rattle.std.specs.Prelude.{◌≡◌, ℕ, Bool, true, ◌||◌, List, map, slice_index_or}
 use Rattle.column.specs.Cells.{Kind, numbers, Cell, null, Proper}
 

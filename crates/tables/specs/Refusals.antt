@@ -2,13 +2,19 @@
 --   growing, dropping     the checks of growing to a total and of dropping n entries, where `held` are held
 --   grown_entries         entries of nulls at the end, up to a total
 --   unread, cell_unfit, cell_refused   the checks of a value column, of one of its rows, and of the cell there
+--   cells_laid            the first n cells as they are written out
+--   other_kind            a column is of another kind than the one read in its place
+--   cols_fit              as many columns as are read, and 1 to 3
+--   past_column, untaken  a row is past one of the columns; a row has a cell that is not taken
 --   no_column             an order reads no column of this number
 --   named_unread, named_refused        the same for one named column of an order
+--   rows_unfit            the checks of the kinds of all order columns, and of some rows
 --   key_unfit, key_refused             the checks of all order columns at some rows, and of the cells there
 --   some_column, some_of  some column, or some member of a list, has a property
 --   key_at                the key of a row: its cell in each order column
 --   verdict               how one key stands to another
 --   writing, measuring_key, writing_key   the checks of writing out the first n cells, or the first n cells of one key column
+--   key_laid, columns_laid   the first n cells of one key column, and of every key column from a number on, as they are written out
 --   keys_laid             the first n keys as they are written out, a column after another
 --   taking_keys           the checks of writing out the first n keys
 use Rattle.std.specs.Prelude.{ℕ, suc, ◌-◌, Bool, false, not, ◌&&◌, ◌||◌, List, [], ◌∷◌, ◌++◌, map, length, take, replicate, Option, ◌==◌, nat_le, nat_lt, slice_index_or, if◌then◌else◌}
@@ -98,6 +104,10 @@ past_column cs r = some_column (λ j c. not (nat_lt r c.rows)) 0 cs
 -- a row with a cell that is not taken
 abbrev pub untaken : Settings → List Column → ℕ → Bool
 untaken s cs r = some_column (λ j c. not (s.takes j (cell_at c r))) 0 cs
+
+-- some column is of another kind, or some row is past one of the columns
+abbrev pub rows_unfit : List Kind → List Column → List ℕ → Option OrderFault
+rows_unfit ks cs rs = first_of (refuse (some_column (other_kind ks) 0 cs) order.Kind ∷ refuse (some_of (past_column cs) rs) order.Rows ∷ [])
 
 unfoldable pub key_unfit : List Kind → Bool → List Column → ℕ → List ℕ → Option OrderFault
 key_unfit ks out cs n rs =

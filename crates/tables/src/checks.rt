@@ -1,9 +1,11 @@
 // The checks that every group table, value state and row order makes, each in its order.
-ghost use Rattle.std.specs.Prelude.{◌≡◌, ℕ, ◌<◌, ◌≤◌, Bool, true, false, not, ◌||◌, List, [], ◌∷◌, map, length};
-ghost use Rattle.column.specs.Checks.{outcome, refuse, first_of};
+ghost use Rattle.std.specs.Prelude.{◌≡◌, false, not, ◌&&◌, map, length, nat_eq, nat_le, nat_lt};
+ghost use Rattle.std.specs.List.{list_any, zip};
+ghost use Rattle.column.specs.Checks.{outcome, refuse};
 ghost use Rattle.column.specs.Cells.{same_kind};
 ghost use Rattle.column.specs.Seen.{column_seen, columns_seen, kind_seen};
-ghost use Rattle.tables.specs.Refusals.{growing, dropping, unread, cell_unfit, named_unread, other_kind, some_column, past_column, key_unfit};
+ghost use Rattle.tables.specs.declared.OrderFault.TheVariants as order;
+ghost use Rattle.tables.specs.Refusals.{growing, dropping, unread, cell_unfit, named_unread, rows_unfit, key_unfit};
 
 use crate::{OrderFault, StateFault, TableFault};
 use column::{Column, Kind};
@@ -35,24 +37,37 @@ pub fn check_drop(held: usize, n: usize) -> Result<(), TableFault>
 pub fn check_kind(kind: Kind, column: &Column) -> Result<(), StateFault>
     ensures { result ≡ outcome (unread (kind_seen kind) (column_seen column.now)) tt }
 {
-    if !same_kind(column.kind, kind) {
+    if column.kind != kind {
         return Err(StateFault::Kind);
     }
     Ok(())
 }
 
-// A row of a value state's column; `out` says that the group is not held: GROUP, KIND, ROWS.
-pub fn check_cell(kind: Kind, out: bool, column: &Column, row: usize) -> Result<(), StateFault>
-    ensures { result ≡ outcome (cell_unfit (kind_seen kind) out (column_seen column.now) row) tt }
+// A row of a value state's column: KIND, ROWS.
+pub fn check_cell(kind: Kind, column: &Column, row: usize) -> Result<(), StateFault>
+    ensures { result ≡ outcome (cell_unfit (kind_seen kind) false (column_seen column.now) row) tt }
 {
-    if out {
-        return Err(StateFault::Group);
-    }
     check_kind(kind, column)?;
     if row >= column.rows {
         return Err(StateFault::Rows);
     }
     Ok(())
+}
+
+// A row of a value state's column for one of `held` groups: GROUP, KIND, ROWS.
+pub fn check_held_cell(
+    kind: Kind,
+    held: usize,
+    group: usize,
+    column: &Column,
+    row: usize,
+) -> Result<(), StateFault>
+    ensures { result ≡ outcome (cell_unfit (kind_seen kind) (nat_le held group) (column_seen column.now) row) tt }
+{
+    if group >= held {
+        return Err(StateFault::Group);
+    }
+    check_cell(kind, column, row)
 }
 
 // A column read in one place of an order that reads the kinds: COLS, KIND.
@@ -62,70 +77,89 @@ pub fn check_named(kinds: &[Kind], named: usize, column: &Column) -> Result<(), 
     if named >= kinds.len() {
         return Err(OrderFault::Cols);
     }
-    if !same_kind(column.kind, kinds[named]) {
+    if column.kind != kinds[named] {
         return Err(OrderFault::Kind);
     }
     Ok(())
-}
-
-// Whether two kinds are the same.
-fn same_kind(a: Kind, b: Kind) -> bool
-    ensures { result ≡ same_kind (kind_seen a) (kind_seen b) }
-{
-    match (a, b) {
-        (Kind::Number, Kind::Number) => true,
-        (Kind::Bytes, Kind::Bytes) => true,
-        (Kind::Record, Kind::Record) => true,
-        _ => false,
-    }
 }
 
 // Whether one of the columns is of another kind than the one read in its place.
-fn other_kinds(kinds: &[Kind], columns: [Column; 3], count: usize) -> bool
-    requires { (count ≤ 3) × (count ≡ length kinds.now) }
-    ensures { result ≡ some_column (other_kind (map kind_seen kinds.now)) 0 (columns_seen columns.entry count) }
+fn other_kinds(kinds: &[Kind], columns: &[Column]) -> bool
+    ensures { result ≡ list_any (λ p. not (same_kind (kind_seen p.0.kind) (kind_seen p.1))) (zip columns.now kinds.now) }
 {
-    let mut other = false;
-    for j in 0..count {
-        other = other || !same_kind(columns[j].kind, kinds[j]);
-    }
-    other
+    columns
+        .iter()
+        .zip(kinds)
+        .any(|(column, kind)| column.kind != *kind)
 }
 
 // Whether a row is past one of the columns.
-fn past(columns: [Column; 3], count: usize, row: usize) -> bool
-    requires { count ≤ 3 }
-    ensures { result ≡ past_column (columns_seen columns.entry count) row }
+fn past(columns: &[Column], row: usize) -> bool
+    ensures { result ≡ list_any (λ c. not (nat_lt row c.rows)) columns.now }
 {
-    let mut out = false;
-    for j in 0..count {
-        out = out || row >= columns[j].rows;
-    }
-    out
+    columns.iter().any(|column| row >= column.rows)
 }
 
-// Two rows of the columns of an order that reads the kinds; `out` says that the group is not held: COLS, GROUP, KIND, ROWS.
-pub fn check_key(
-    kinds: &[Kind],
-    out: bool,
-    columns: [Column; 3],
-    count: usize,
-    a: usize,
-    b: usize,
-) -> Result<(), OrderFault>
-    ensures { result ≡ outcome (key_unfit (map kind_seen kinds.now) out (columns_seen columns.entry count) count (a ∷ (b ∷ []))) tt }
+// Whether one of the rows is.
+fn some_past(columns: &[Column], rows: &[usize]) -> bool
+    ensures { result ≡ list_any (λ r. list_any (λ c. not (nat_lt r c.rows)) columns.now) rows.now }
 {
-    if count != kinds.len() || count < 1 || count > 3 {
+    rows.iter().any(|row| past(columns, *row))
+}
+
+// Whether as many columns are given as are read, and 1 to 3: COLS.
+pub fn check_count(read: usize, count: usize) -> Result<(), OrderFault>
+    ensures { result ≡ outcome (refuse (not (nat_eq count read && (nat_le 1 count && nat_le count 3))) order.Cols) tt }
+{
+    if count != read || !(1..=3).contains(&count) {
         return Err(OrderFault::Cols);
     }
-    if out {
-        return Err(OrderFault::Group);
-    }
-    if other_kinds(kinds, columns, count) {
+    Ok(())
+}
+
+// Rows of the columns of an order that reads the kinds: KIND, ROWS.
+fn check_rows(kinds: &[Kind], columns: &[Column], rows: &[usize]) -> Result<(), OrderFault>
+    requires { length columns.now ≡ length kinds.now }
+    ensures { result ≡ outcome (rows_unfit (map kind_seen kinds.now) (map column_seen columns.now) rows.now) tt }
+{
+    if other_kinds(kinds, columns) {
         return Err(OrderFault::Kind);
     }
-    if past(columns, count, a) || past(columns, count, b) {
+    if some_past(columns, rows) {
         return Err(OrderFault::Rows);
     }
     Ok(())
+}
+
+// Rows of the given columns, by an order that reads the kinds: COLS, KIND, ROWS.
+// By a rule of the project the order columns come as an array of three by value and a count.
+pub fn check_key(
+    kinds: &[Kind],
+    columns: [Column; 3],
+    count: usize,
+    rows: &[usize],
+) -> Result<(), OrderFault>
+    ensures { result ≡ outcome (key_unfit (map kind_seen kinds.now) false (columns_seen columns.entry count) count rows.now) tt }
+{
+    check_count(kinds.len(), count)?;
+    check_rows(kinds, &columns[..count], rows)
+}
+
+// The same for one of `held` groups: COLS, GROUP, KIND, ROWS.
+// The order columns come as in check_key, by the same rule.
+pub fn check_held_key(
+    kinds: &[Kind],
+    held: usize,
+    group: usize,
+    columns: [Column; 3],
+    count: usize,
+    rows: &[usize],
+) -> Result<(), OrderFault>
+    ensures { result ≡ outcome (key_unfit (map kind_seen kinds.now) (nat_le held group) (columns_seen columns.entry count) count rows.now) tt }
+{
+    check_count(kinds.len(), count)?;
+    if group >= held {
+        return Err(OrderFault::Group);
+    }
+    check_rows(kinds, &columns[..count], rows)
 }

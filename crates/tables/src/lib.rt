@@ -2,11 +2,17 @@
 #![tactic(auto)]
 
 mod checks;
+mod entries;
+mod faults;
 mod order;
 mod state;
 mod table;
 
-pub use checks::{check_cell, check_drop, check_grow, check_key, check_kind, check_named};
+pub use checks::{
+    check_cell, check_count, check_drop, check_grow, check_held_cell, check_held_key, check_key,
+    check_kind, check_named,
+};
+pub use entries::Entries;
 pub use order::RowOrder;
 pub use state::ValueState;
 pub use table::GroupTable;
@@ -31,6 +37,7 @@ pub enum StateFault {
 }
 
 // Why a row order declines a call.
+// Beside StateFault, though Cols alone is more: by a rule of the project each layer names its own refusals.
 #[derive(Clone, Copy)]
 pub enum OrderFault {
     Table(TableFault),

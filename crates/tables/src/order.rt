@@ -7,12 +7,13 @@ ghost use Rattle.layout.specs.Written.{parts_seen, keys_seen, space_of};
 ghost use Rattle.tables.specs.Meaning.{OrderLaws};
 ghost use Rattle.tables.specs.Refusals.{named_unread, named_refused, key_refused, key_at, verdict, key_laid, measuring_key, writing_key, keys_laid, taking_keys};
 
-use crate::{GroupTable, OrderFault, TableFault};
+use crate::{GroupTable, OrderFault, check_drop};
 use column::Column;
 use layout::{KeyOutputs, Output, Space};
 use std::cmp::Ordering;
 
 // A key for each group, of one or more columns, and a total and transitive relation between keys.
+// By a rule of the project the order columns come as an array of three by value and a count.
 pub trait RowOrder: GroupTable<Fault = OrderFault> {
     // Whether a column is of the kind that is read as column `named`: COLS, KIND.
     fn reads_named(&self, named: usize, column: &Column) -> Result<(), OrderFault>
@@ -69,9 +70,8 @@ pub trait RowOrder: GroupTable<Fault = OrderFault> {
     fn keys_fit(&self, n: usize, out: &KeyOutputs) -> Result<(), OrderFault>
         ensures { result ≡ outcome (taking_keys (Self.GroupTable.settings self.now) (Self.GroupTable.entries self.now) n (keys_seen out.now)) tt }
     {
-        if n > self.groups() {
-            return Err(OrderFault::Table(TableFault::Fewer));
-        }
+        check_drop(self.groups(), n)?;
+        // One output after another: a loop over borrows of the outputs was tried, and its proof did not close.
         let columns = self.columns();
         if columns > 3 {
             return Err(OrderFault::Space);
@@ -94,6 +94,7 @@ pub trait RowOrder: GroupTable<Fault = OrderFault> {
         ensures after { keys_seen out.new ≡ unless_refused (taking_keys (Self.GroupTable.settings self.now) (Self.GroupTable.entries self.now) n (keys_seen out.old)) (written_all (keys_laid (Self.GroupTable.settings self.now) (Self.GroupTable.entries self.now) n) (keys_seen out.old)) (keys_seen out.old) }
     {
         self.keys_fit(n, out)?;
+        // One output after another, as in keys_fit, for the same reason.
         let columns = self.columns();
         if columns == 0 {
             return Ok(());

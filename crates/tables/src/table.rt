@@ -1,5 +1,5 @@
 // Group tables.
-ghost use Rattle.std.specs.Prelude.{◌≡◌, ℕ, List, length, drop};
+ghost use Rattle.std.specs.Prelude.{◌≡◌, List, length, drop};
 ghost use Rattle.std.specs.Option.{option_map};
 ghost use Rattle.column.specs.Cells.{Cell};
 ghost use Rattle.column.specs.Checks.{outcome, unless_refused};

@@ -2,6 +2,5 @@
 #![tactic(auto)]
 
 mod state;
-mod state_table;
 
-pub use state_table::NumberValueState;
+pub use state::NumberValueState;

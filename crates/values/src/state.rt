@@ -5,10 +5,18 @@ ghost use Rattle.tables.specs.declared.StateFault.TheVariants as state;
 ghost use Rattle.values.specs.Held.{state_entries, state_settings};
 ghost use Rattle.tables.proofs.Ordering.{number_state_laws};
 
-use crate::state_table::NumberValueState;
 use column::{Column, Kind};
 use layout::{Output, Space};
-use tables::{GroupTable, StateFault, ValueState, check_cell, check_drop, check_grow, check_kind};
+use tables::{
+    Entries, GroupTable, StateFault, ValueState, check_cell, check_drop, check_held_cell,
+    check_kind,
+};
+
+// A number, or null, for each held group.
+#[derive(Drop)]
+pub struct NumberValueState {
+    cells: Entries<Option<i64>>,
+}
 
 impl NumberValueState {
     // A state of no group.
@@ -17,8 +25,7 @@ impl NumberValueState {
         ensures settings { state_settings result ≡ number_state }
     {
         NumberValueState {
-            cells: [None; 256],
-            len: 0,
+            cells: Entries::new(None),
         }
     }
 }
@@ -33,7 +40,7 @@ impl GroupTable for NumberValueState {
     ghost declines = { state.Table };
 
     fn groups(&self) -> usize {
-        self.len
+        self.cells.len()
     }
 
     fn columns(&self) -> usize {
@@ -41,23 +48,11 @@ impl GroupTable for NumberValueState {
     }
 
     fn grow(&mut self, total: usize) -> Result<(), StateFault> {
-        if let Err(fault) = check_grow(self.len, total) {
-            return Err(StateFault::Table(fault));
-        }
-        for i in self.len..total {
-            self.cells[i] = None;
-        }
-        self.len = total;
-        Ok(())
+        Ok(self.cells.grow(total, None)?)
     }
 
     fn drop_first(&mut self, n: usize) -> Result<(), StateFault> {
-        if let Err(fault) = check_drop(self.len, n) {
-            return Err(StateFault::Table(fault));
-        }
-        self.cells[0..self.len].rotate_left(n);
-        self.len -= n;
-        Ok(())
+        Ok(self.cells.drop_first(n)?)
     }
 }
 
@@ -69,33 +64,21 @@ impl ValueState for NumberValueState {
     }
 
     fn takes(&self, column: &Column, row: usize) -> Result<(), StateFault> {
-        check_cell(Kind::Number, false, column, row)
+        check_cell(Kind::Number, column, row)
     }
 
     fn update(&mut self, group_idx: usize, column: &Column, row: usize) -> Result<(), StateFault> {
-        check_cell(Kind::Number, group_idx >= self.len, column, row)?;
-        self.cells[group_idx] = column.number(row);
+        check_held_cell(Kind::Number, self.cells.len(), group_idx, column, row)?;
+        self.cells.set(group_idx, column.number(row));
         Ok(())
     }
 
     fn space(&self, n: usize) -> Result<Space, StateFault> {
-        if let Err(fault) = check_drop(self.len, n) {
-            return Err(StateFault::Table(fault));
-        }
-        Ok(Space {
-            validity: (n + 7) / 8,
-            offsets: 0,
-            data: 8 * n,
-        })
+        Ok(self.cells.number_space(n)?)
     }
 
     fn write(&self, n: usize, out: &mut Output) -> Result<(), StateFault> {
-        if let Err(fault) = check_drop(self.len, n) {
-            return Err(StateFault::Table(fault));
-        }
-        if !out.put_numbers(&self.cells[0..n]) {
-            return Err(StateFault::Space);
-        }
-        Ok(())
+        check_drop(self.cells.len(), n)?;
+        Ok(out.put_numbers(&self.cells.as_slice()[..n])?)
     }
 }

@@ -1,18 +1,16 @@
-use Rattle.std.proofs.Common.{rules}
+use Rattle.std.proofs.Common.{◌≡◌, false, length, ◌∙◌, rules}
+use Rattle.tables.proofs.Declining.{declined, answer_some, first_declined, exits}
 use Rattle.tables.proofs.Walking.{key_is}
 use Rattle.tables.proofs.checks.check_key.Goals as goal
 
-pub returns-then-count-kinds : goal.returns-then-count-kinds
-returns-then-count-kinds c = search (rules, key_is)
-
-pub returns-then-out : goal.returns-then-out
-returns-then-out c = search (rules, key_is)
-
-pub returns-then-other_kinds : goal.returns-then-other_kinds
-returns-then-other_kinds c = search (rules, key_is)
-
-pub returns-then-past : goal.returns-then-past
-returns-then-past c = search (rules, key_is)
+pub returns-in_err-check_count : goal.returns-in_err-check_count
+returns-in_err-check_count c =
+    let l : length c.args.columns ≡ 3 = search rules in
+    let k = key_is c.args.kinds.now false c.args.columns c.args.count c.args.rows.now l in
+    exits _ _ _ _ _ c.from_residual.ensures.1 (answer_some _ _ (tt {0}) (k ∙ first_declined _ _ (declined _ _ _ c.in_err-check_count.ensures)))
 
 pub returns : goal.returns
-returns c = search (rules, key_is)
+returns c =
+    let l : length c.args.columns ≡ 3 = search rules in
+    let k = key_is c.args.kinds.now false c.args.columns c.args.count c.args.rows.now l in
+    search rules

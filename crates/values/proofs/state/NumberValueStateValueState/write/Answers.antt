@@ -1,40 +1,54 @@
-use Rattle.std.proofs.Common.{◌≡◌, length, Some, sym, ap, ◌∙◌, arith, rules}
-use Rattle.layout.specs.Layout.{written, fits}
-use Rattle.layout.specs.Written.{parts_seen}
+use Rattle.std.proofs.Common.{cond, take, sym, ap, ◌∙◌, rules}
+use Rattle.std.proofs.lemmas.List.{length-map}
+use Rattle.layout.specs.Layout.{written}
+use Rattle.layout.specs.Written.{parts_seen, numbers_laid}
 use Rattle.tables.specs.Delivered.{number_state}
 use Rattle.tables.specs.Refusals.{dropping}
-use Rattle.tables.proofs.Declining.{passed, declined, answer_none, answer_some, passed_new, refused_same, drop_within}
-use Rattle.tables.proofs.Fronts.{held_long}
-use Rattle.tables.proofs.Passing.{writing_fewer, writing_short, writing_fine}
+use Rattle.tables.proofs.Declining.{passed, declined, answer_none, answer_some, passed_new, refused_same, drop_within, exits}
+use Rattle.tables.proofs.Passing.{writing_fewer, put_fails, put_fits}
 use Rattle.values.specs.Held.{state_entries}
-use Rattle.values.proofs.Laid.{state_laid}
+use Rattle.values.proofs.Laid.{state_laid, write_fails, write_fits}
 use Rattle.values.proofs.state.NumberValueStateValueState.write.Goals as goal
 
-pub returns-in-Err : goal.returns-in-Err
-returns-in-Err c =
-    let s = c.args.self.now in
-    let e : dropping (length (state_entries s)) c.args.n ≡ Some c.in-Err.fault
-    = ap (λ k. dropping k c.args.n) (held_long _ s.cells s.len (omega arith)) ∙ declined _ _ _ c.in-Err.ensures in
-    let w = writing_fewer number_state (state_entries s) c.args.n (parts_seen c.args.out.now) e in
-    record { answer = answer_some _ _ _ w; after = refused_same _ _ _ _ w }
+pub returns-in_err-check_drop-clause-answer : goal.returns-in_err-check_drop-clause-answer
+returns-in_err-check_drop-clause-answer c =
+    let e = ap (λ k. dropping k c.args.n) (length-map c.args.self.now.cells _ ∙ sym c.len.ensures.held) ∙ declined _ _ _ c.in_err-check_drop.ensures in
+    exits _ _ _ _ _ c.from_residual.ensures.1 (answer_some _ _ (tt {0}) (writing_fewer number_state (state_entries c.args.self.now) c.args.n (parts_seen c.args.out.now) e))
+
+pub returns-in_err-check_drop-clause-after : goal.returns-in_err-check_drop-clause-after
+returns-in_err-check_drop-clause-after c =
+    let e = ap (λ k. dropping k c.args.n) (length-map c.args.self.now.cells _ ∙ sym c.len.ensures.held) ∙ declined _ _ _ c.in_err-check_drop.ensures in
+    refused_same _ _ _ _ (writing_fewer number_state (state_entries c.args.self.now) c.args.n (parts_seen c.args.out.now) e)
 
 pub slice_bounds-put_numbers-end : goal.slice_bounds-put_numbers-end
-slice_bounds-put_numbers-end c = let h = drop_within _ _ (passed _ _ _ c.in_default.ensures) in search rules
+slice_bounds-put_numbers-end c = let h = drop_within _ _ (passed _ _ _ c.in_ok-check_drop.ensures) in search rules
 
-pub returns-then-not-put_numbers : goal.returns-then-not-put_numbers
-returns-then-not-put_numbers c =
-    let s = c.args.self.now in
-    let p = passed _ _ _ c.in_default.ensures in
-    let e = ap (λ k. dropping k c.args.n) (held_long _ s.cells s.len (omega arith)) ∙ p in
-    let l = state_laid s.cells s.len c.args.n (drop_within _ _ p) in
-    let w = writing_short number_state (state_entries s) c.args.n (parts_seen c.args.out.now) e (ap (λ x. fits x (parts_seen c.args.out.now)) l ∙ sym c.if-not-put_numbers.ensures.answer) in
-    record { answer = answer_some _ _ _ w; after = c.if-not-put_numbers.ensures.after ∙ refused_same _ _ _ _ w }
+pub returns-in_err-put_numbers-clause-answer : goal.returns-in_err-put_numbers-clause-answer
+returns-in_err-put_numbers-clause-answer c =
+    let p = passed _ _ _ c.in_ok-check_drop.ensures in
+    exits _ _ _ _ _ c.from_residual-in_err-put_numbers.ensures.1
+    (answer_some _ _ (tt {0}) (write_fails c.args.self.now.cells _ c.args.n c.len.result _ _ c.len.ensures.held c.as_slice.ensures.held p c.in_err-put_numbers.ensures.answer))
 
-pub returns : goal.returns
-returns c =
-    let s = c.args.self.now in
-    let p = passed _ _ _ c.in_default.ensures in
-    let e = ap (λ k. dropping k c.args.n) (held_long _ s.cells s.len (omega arith)) ∙ p in
-    let l = state_laid s.cells s.len c.args.n (drop_within _ _ p) in
-    let w = writing_fine number_state (state_entries s) c.args.n (parts_seen c.args.out.now) e (ap (λ x. fits x (parts_seen c.args.out.now)) l ∙ sym c.if-not-put_numbers.ensures.answer) in
-    record { answer = answer_none _ _ w; after = c.if-not-put_numbers.ensures.after ∙ ap (λ x. written x (parts_seen c.args.out.now)) (sym l) ∙ passed_new _ _ _ w }
+pub returns-in_err-put_numbers-clause-after : goal.returns-in_err-put_numbers-clause-after
+returns-in_err-put_numbers-clause-after c =
+    let p = passed _ _ _ c.in_ok-check_drop.ensures in
+    let r = c.in_err-put_numbers.ensures in
+    let o = parts_seen c.args.out.now in
+    r.after
+    ∙ ap (λ b. cond b (written (numbers_laid (take c.args.n c.as_slice.result.now)) o) o) (put_fails _ _ r.answer)
+    ∙ refused_same _ _ _ _ (write_fails c.args.self.now.cells _ c.args.n c.len.result o _ c.len.ensures.held c.as_slice.ensures.held p r.answer)
+
+pub returns-clause-answer : goal.returns-clause-answer
+returns-clause-answer c =
+    let p = passed _ _ _ c.in_ok-check_drop.ensures in
+    answer_none _ _ (write_fits c.args.self.now.cells _ c.args.n c.len.result _ c.len.ensures.held c.as_slice.ensures.held p c.in_ok-put_numbers.ensures.answer)
+
+pub returns-clause-after : goal.returns-clause-after
+returns-clause-after c =
+    let p = passed _ _ _ c.in_ok-check_drop.ensures in
+    let r = c.in_ok-put_numbers.ensures in
+    let o = parts_seen c.args.out.now in
+    r.after
+    ∙ ap (λ b. cond b (written (numbers_laid (take c.args.n c.as_slice.result.now)) o) o) (put_fits _ r.answer)
+    ∙ ap (λ l. written l o) (ap (λ xs. numbers_laid (take c.args.n xs)) c.as_slice.ensures.held ∙ sym (state_laid c.args.self.now.cells c.args.n))
+    ∙ passed_new _ _ _ (write_fits c.args.self.now.cells _ c.args.n c.len.result o c.len.ensures.held c.as_slice.ensures.held p r.answer)
