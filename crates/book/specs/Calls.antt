@@ -2,9 +2,12 @@
 --   Call        update, merge, convert, evaluate or state, with its arguments
 --   Result      done, a number of dropped groups for the shift notice, or a fault
 --   Answer      the result, and every output byte
+--   leaving     the winners that leave in an emission
 --   declined    what declines a call, where the winners ws are held
+--   answered    what a call that is not declined answers
 --   answer_unless   the refusal with the buffers as they were, or the answer where there is none
 --   answer      the answer of a call, from the making, the book, the call and the buffers before it
+--   taken_in    the book after a call that is not declined
 --   after       the book after a call: a declined one changes nothing
 --   book_after, answers   the same for a list of calls, each with its own outputs
 use Rattle.std.specs.Prelude.{ℕ, List, [], ◌∷◌, length, take, drop, Some, None, Option}

@@ -8,12 +8,15 @@
 --   FIRST, LAST           made so, by ascending keys
 --   blank_parts, blank, bare   buffers of 255s with room for two rows; buffers of no bytes
 --   Case                  how an accumulator is made, the buffers of each call, the calls with what each results in, and the winners at the end
---   bare_case             a case whose calls have buffers of no bytes
+--   case, bare_case       a case whose calls have blank buffers, and one whose calls have buffers of no bytes
 --   taken, filtered, merged   an update without a filter, one with a filter, and a merge with flags, which are done
+--   null_then_7, three, null_among_keys, grow_to   batches: a null with the smaller key and then 7; three groups with a row each; a null among keys; no rows, up to a total
 --   two_held, most_held   two groups, and 256, are taken in, and what is then declined
 --   cases                 the table
+--   calls                 the calls of a case with their buffers
 --   ComesOut              from the empty book on, the calls result in what the case says, and its winners are there at the end
 --   bytes_by              every output byte of a call of a FIRST that took one batch before, over blank buffers
+--   front                 one row at the front of blank buffers: the byte of its validity bit, and its eight bytes
 --   BytesWritten          what an evaluation and a state write, byte by byte
 use Rattle.std.specs.Prelude.{◌≡◌, ℕ, Bool, true, false, List, [], ◌∷◌, ◌++◌, map, length, replicate, pos, Some, None, Option, slice_index_or}
 use Rattle.column.specs.Cells.{numbers, Cell, null, number}

@@ -1,13 +1,16 @@
 -- Declines: the checks of a batch, and the fault of each.
 --   at_row, at_column   the fault at the lowest row of a list, or in the first order column, where a check holds
+--   own                 a fault of the accumulator that names no column and no row
+--   rows_differ         ROWS in one column, against so many rows
 --   order_column        the number of an order column in a fault: 1 to 3, and 3 for any later one
+--   kind_check, rows_check, long_check   KIND, ROWS and LONG in one order column
 --   cols, kind, rows, long   the checks COLS, KIND, ROWS and LONG: the value column first, then the order columns, then the filter
 --   flag_rows           how many rows a filter has; without one, as many as are asked for
 --   batch_checks, batch_declined   all checks of a batch in their order, where `held` groups are held, and the first that holds
 use Rattle.std.specs.Prelude.{ℕ, suc, ◌+◌, min, Bool, not, List, [], ◌∷◌, length, Some, None, Option, ◌==◌, nat_le, nat_lt, slice_index, if◌then◌else◌}
 use Rattle.column.specs.Checks.{refuse, first_of}
 use Rattle.column.specs.Faults.{Fault, fault, KIND, ROWS, COLS, LONG, TOTAL, GROUP, SHRUNK, in_state, in_order, in_accumulator}
-use Rattle.column.specs.Cells.{same_kind}
+use Rattle.column.specs.Cells.{Kind, Cell, same_kind}
 use Rattle.column.specs.Columns.{Column, Flags, cell_at}
 use Rattle.tables.specs.Refusals.{other_kind, cols_fit}
 use Rattle.book.specs.Winners.{Making}
@@ -32,14 +35,14 @@ own number = fault number in_accumulator 9 0
 unfoldable pub cols : Making → Given → Option Fault
 cols m g = refuse (not (cols_fit m.order.kinds (order_columns g) g.count)) (own COLS)
 
--- KIND in order column j
-abbrev pub kind_check : Making → ℕ → Column → Option Fault
-kind_check m j c = refuse (other_kind m.order.kinds j c) (fault KIND in_order (order_column j) 0)
+-- KIND in order column j, where these kinds are read
+abbrev pub kind_check : List Kind → ℕ → Column → Option Fault
+kind_check ks j c = refuse (other_kind ks j c) (fault KIND in_order (order_column j) 0)
 
 unfoldable pub kind : Making → Given → Option Fault
 kind m g =
     first_of (refuse (not (same_kind g.value.kind m.state.kind)) (fault KIND in_state 0 0)
-    ∷ at_column (kind_check m) 0 (order_columns g) ∷ [])
+    ∷ at_column (kind_check m.order.kinds) 0 (order_columns g) ∷ [])
 
 abbrev pub flag_rows : Option Flags → ℕ → ℕ
 flag_rows None n = n
@@ -58,14 +61,14 @@ rows g marks =
     first_of (at_column (rows_check g.value.rows) 0 (order_columns g)
     ∷ rows_differ 4 (flag_rows marks g.value.rows) g.value.rows ∷ [])
 
--- LONG in order column j, at the lowest of some rows
-abbrev pub long_check : Making → List ℕ → ℕ → Column → Option Fault
-long_check m rs j c = at_row (λ r. not (m.order.takes j (cell_at c r))) (λ r. fault LONG in_order (order_column j) r) rs
+-- LONG in order column j, at the lowest of some rows, where these cells are taken
+abbrev pub long_check : (ℕ → Cell → Bool) → List ℕ → ℕ → Column → Option Fault
+long_check takes rs j c = at_row (λ r. not (takes j (cell_at c r))) (λ r. fault LONG in_order (order_column j) r) rs
 
 unfoldable pub long : Making → Given → Option Fault
 long m g =
     first_of (at_row (λ r. not (m.state.takes (cell_at g.value r))) (λ r. fault LONG in_state 0 r) (every_row g)
-    ∷ at_column (long_check m (every_row g)) 0 (order_columns g) ∷ [])
+    ∷ at_column (long_check m.order.takes (every_row g)) 0 (order_columns g) ∷ [])
 
 abbrev pub batch_checks : Making → ℕ → Batch → Option Flags → List (Option Fault)
 batch_checks m held b marks =

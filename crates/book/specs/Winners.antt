@@ -5,6 +5,7 @@
 --   beats      for FIRST a row with a smaller key beats, for LAST one with a larger key
 --   unbeaten   no row of the group beats this one
 --   top_rows   the rows of a group that no other of its rows beats, in the order in which they came
+--   earliest   the first of some rows, if there are any
 --   winner     the earliest top row; none where there are no rows
 --   winners    the winner of each group
 use Rattle.std.specs.Prelude.{Bool, not, List, [], ◌∷◌, map, Some, None, filter, Option, if◌then◌else◌}

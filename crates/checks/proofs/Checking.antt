@@ -1,115 +1,68 @@
 -- What the checks of a batch find.
-use Rattle.std.proofs.Common.{◌≡◌, ℕ, zero, suc, ◌+◌, ◌-◌, ◌<◌, ◌≤◌, Bool, true, false, cond, not, ◌&&◌, eqb, leb, List, [], ◌∷◌, map, length, get_or, drop, IsErrAnd, Some, None, Option, Result, sym, refl, ap, ◌∙◌, add-zero, add-one, arith}
-use lib.ListN.{get_or-map}
+use Rattle.std.proofs.Common.{◌≡◌, ℕ, ◌<◌, ◌≤◌, Bool, true, false, not, ◌&&◌, eqb, ltb, leb, List, [], ◌∷◌, map, length, get_or, IsErrAnd, Some, None, Option, Result, sym, refl, ap, ◌∙◌, arith}
 use Rattle.std.specs.List.{AllByRecursion}
 use Rattle.column.specs.declared.Column as code
+use Rattle.tables.specs.declared.TableFault.TheVariants as table
 use Rattle.tables.specs.declared.StateFault.TheVariants as state
 use Rattle.tables.specs.declared.OrderFault.TheVariants as order
 use Rattle.faults.specs.declared.Fault as coded
 use Rattle.std.proofs.lemmas.Result.{err_from_is_err_and}
-use Rattle.std.proofs.lemmas.Bool.{lt-ltb, lt-leb, leb-true, eqb-true}
-use Rattle.std.proofs.lemmas.List.{length-take-le, length-map, get_or-take, drop_more, drop_all}
+use Rattle.std.proofs.lemmas.Bool.{lt-ltb, lt-leb, leb-true, eqb-true, not-false, and_parts, and_right}
+use Rattle.std.proofs.lemmas.List.{length-take-le, length-map}
 use Rattle.column.specs.Cells.{Kind, same_kind}
 use Rattle.column.specs.Checks.{refuse, first_of, outcome}
 use Rattle.column.specs.Columns.{Column, cell_at, count_up, Flags}
-use Rattle.column.specs.Faults.{Fault, fault, KIND, COLS, LONG, in_state, in_order}
+use Rattle.column.specs.Faults.{Fault, fault, COLS, LONG, TOTAL, GROUP, SHRUNK, in_state, in_order, in_accumulator}
 use Rattle.column.specs.Seen.{columns_seen, column_seen}
 use Rattle.tables.specs.Meaning.{Settings, state_of}
-use Rattle.tables.specs.Refusals.{unread, cell_refused, named_unread, named_refused, other_kind}
+use Rattle.tables.specs.Refusals.{growing, cell_refused, named_unread, named_refused, other_kind}
 use Rattle.book.specs.Batches.{Given, Batch, order_columns}
-use Rattle.book.specs.Declines.{at_row, at_column, own, cols, kind, rows, long, rows_check, batch_declined}
+use Rattle.book.specs.Declines.{at_row, at_column, order_column, own, cols, kind, kind_check, rows, long, rows_check, rows_differ, batch_declined}
 use Rattle.book.specs.Winners.{Making}
-use Rattle.faults.specs.Reported.{state_placed, order_placed, declined_seen, fault_seen}
-use Rattle.checks.specs.Seen.{given_seen, made_with, reading, kind_check}
+use Rattle.faults.specs.Reported.{own_of, placed, place_number, declined_seen, fault_seen}
+use Rattle.faults.specs.declared.Place.{Place}
+use Rattle.faults.specs.declared.Place.TheVariants.{Values, Call}
+use Rattle.faults.specs.declared.Refusal.{Refusal}
+use Rattle.faults.specs.declared.Refusal.TheVariants.{State, Order, Own}
+use Rattle.checks.specs.declared.Given as coded_given
+use Rattle.checks.specs.Seen.{given_seen, made_with, reading}
 
 -- Reading a lower layer's refusal
 
-pub value_kind_is : (k : Kind) (c : Column) → declined_seen (state_placed (outcome (unread k c) (tt {0})) 0 0) ≡ refuse (not (same_kind c.kind k)) (fault KIND in_state 0 0)
-value_kind_is k c = go (same_kind c.kind k)
-  where
-    go : (t : Bool) → declined_seen (state_placed (outcome (refuse (not t) state.Kind) (tt {0})) 0 0) ≡ refuse (not t) (fault KIND in_state 0 0)
-    go true = refl
-    go false = refl
-
-pub value_long_is : (s : Settings) (c : Column) (r : ℕ) → same_kind c.kind (state_of s).kind ≡ true → r < c.rows
-    → declined_seen (state_placed (outcome (cell_refused s false c r) (tt {0})) 0 r) ≡ refuse (not (s.takes 0 (cell_at c r))) (fault LONG in_state 0 r)
-unfolding cell_refused
-value_long_is s c r k l = rw (k, lt-ltb r c.rows l) (go (s.takes 0 (cell_at c r)))
-  where
-    go : (t : Bool) → declined_seen (state_placed (outcome (first_of (None ∷ refuse (not t) state.Long ∷ [])) (tt {0})) 0 r) ≡ refuse (not t) (fault LONG in_state 0 r)
-    go false = refl
-    go true = refl
-
-pub order_kind_is : (ks : List Kind) (j : ℕ) (c : Column) (n : ℕ) → j < length ks
-    → declined_seen (order_placed (outcome (named_unread ks j c) (tt {0})) n 0) ≡ refuse (other_kind ks j c) (fault KIND in_order n 0)
-unfolding named_unread
-order_kind_is ks j c n h = rw (lt-leb (length ks) j h) (go (other_kind ks j c))
-  where
-    go : (t : Bool) → declined_seen (order_placed (outcome (first_of (None ∷ refuse t order.Kind ∷ [])) (tt {0})) n 0) ≡ refuse t (fault KIND in_order n 0)
-    go true = refl
-    go false = refl
-
-pub order_long_is : (s : Settings) (j : ℕ) (c : Column) (r n : ℕ) → j < length s.kinds → other_kind s.kinds j c ≡ false → r < c.rows
-    → declined_seen (order_placed (outcome (named_refused s j c r) (tt {0})) n r) ≡ refuse (not (s.takes j (cell_at c r))) (fault LONG in_order n r)
-unfolding named_refused named_unread
-order_long_is s j c r n p k l = rw (lt-leb (length s.kinds) j p, k, lt-ltb r c.rows l) (go (s.takes j (cell_at c r)))
-  where
-    go : (t : Bool) → declined_seen (order_placed (outcome (first_of (None ∷ None ∷ refuse (not t) order.Long ∷ [])) (tt {0})) n r) ≡ refuse (not t) (fault LONG in_order n r)
-    go false = refl
-    go true = refl
-
--- Going through the rows and through the columns
-
-first_one : (o : Option Fault) → first_of (o ∷ []) ≡ o
+pub first_one : {F : Type 0} (o : Option F) → first_of (o ∷ []) ≡ o
 first_one None = refl
 first_one (Some f) = refl
 
-pub row_next : (test : ℕ → Bool) (f : ℕ → Fault) (n i : ℕ) → i < n → refuse (test i) (f i) ≡ None
-    → at_row test f (count_up i (n - i)) ≡ at_row test f (count_up (i + 1) (n - (i + 1)))
-row_next test f n i h e =
-    let k : n - i ≡ suc (n - (i + 1)) = omega arith in
-    rw (k, add-one i) (go (test i) e)
+refused : {F : Type 0} (whole : F → Refusal) (t : Bool) (f : F) (p : Place) (n : ℕ)
+    → declined_seen (placed whole (outcome (refuse t f) (tt {0})) p n) ≡ refuse t (fault_seen (record { refusal = whole f; place = p; row = n }))
+refused whole true f p n = refl
+refused whole false f p n = refl
+
+pub value_long_is : (s : Settings) (c : Column) (r : ℕ) → same_kind c.kind (state_of s).kind ≡ true → r < c.rows
+    → declined_seen (placed State (outcome (cell_refused s false c r) (tt {0})) Values r) ≡ refuse (not (s.takes 0 (cell_at c r))) (fault LONG in_state 0 r)
+unfolding cell_refused
+value_long_is s c r k l = rw (k, lt-ltb r c.rows l, first_one (refuse (not (s.takes 0 (cell_at c r))) state.Long)) (refused State (not (s.takes 0 (cell_at c r))) state.Long Values r)
+
+pub order_kind_is : (ks : List Kind) (j : ℕ) (c : Column) (p : Place) → j < length ks → place_number p ≡ order_column j
+    → declined_seen (placed Order (outcome (named_unread ks j c) (tt {0})) p 0) ≡ kind_check ks j c
+unfolding named_unread
+order_kind_is ks j c p h e = rw (lt-leb (length ks) j h, first_one (refuse (other_kind ks j c) order.Kind), ← e) (refused Order (other_kind ks j c) order.Kind p 0)
+
+pub order_long_is : (s : Settings) (j : ℕ) (c : Column) (r : ℕ) (p : Place) → place_number p ≡ order_column j → named_unread s.kinds j c ≡ None → r < c.rows
+    → declined_seen (placed Order (outcome (named_refused s j c r) (tt {0})) p r) ≡ refuse (not (s.takes j (cell_at c r))) (fault LONG in_order (order_column j) r)
+unfolding named_refused
+order_long_is s j c r p e u l = rw (u, lt-ltb r c.rows l, first_one (refuse (not (s.takes j (cell_at c r))) order.Long), ← e) (refused Order (not (s.takes j (cell_at c r))) order.Long p r)
+
+pub total_is : (held total : ℕ) → declined_seen (placed (λ f. Own (own_of f)) (outcome (growing held total) (tt {0})) Call 0) ≡ first_of (refuse (ltb 256 total) (own TOTAL) ∷ refuse (ltb total held) (own SHRUNK) ∷ [])
+unfolding growing
+total_is held total = go (ltb 256 total) (ltb total held)
   where
-    go : (b : Bool) → refuse b (f i) ≡ None → cond b (Some (f i)) (at_row test f (count_up (suc i) (n - (suc i)))) ≡ at_row test f (count_up (suc i) (n - (suc i)))
-    go true e = cc
-    go false e = refl
+    go : (many few : Bool) → declined_seen (placed (λ f. Own (own_of f)) (outcome (first_of (refuse many table.Total ∷ refuse few table.Shrunk ∷ [])) (tt {0})) Call 0) ≡ first_of (refuse many (own TOTAL) ∷ refuse few (own SHRUNK) ∷ [])
+    go true few = refl
+    go false true = refl
+    go false false = refl
 
-pub row_here : (test : ℕ → Bool) (f : ℕ → Fault) (n i : ℕ) (x : Fault) → i < n → refuse (test i) (f i) ≡ Some x → at_row test f (count_up i (n - i)) ≡ Some x
-row_here test f n i x h e =
-    let k : n - i ≡ suc (n - (i + 1)) = omega arith in
-    rw k (go (test i) e)
-  where
-    go : (b : Bool) → refuse b (f i) ≡ Some x → cond b (Some (f i)) (at_row test f (count_up (suc i) (n - (i + 1)))) ≡ Some x
-    go true e = e
-    go false e = cc
-
-pub row_done : (test : ℕ → Bool) (f : ℕ → Fault) (n i : ℕ) → n ≤ i → at_row test f (count_up i (n - i)) ≡ None
-row_done test f n i h = let k : n - i ≡ 0 = omega arith in rw k
-
-length_seen : (os : List code.Column) (n : ℕ) → n ≤ length os → length (columns_seen os n) ≡ n
-length_seen os n h = length-take-le n (map column_seen os) (let l = length-map os column_seen in omega arith)
-
-pub seen_at : (os : List code.Column) (n j : ℕ) (d : code.Column) → j < n → get_or (columns_seen os n) j (column_seen d) ≡ column_seen (get_or os j d)
-seen_at os n j d h = get_or-take n (map column_seen os) j (column_seen d) h ∙ get_or-map column_seen os j d
-
-pub column_next : (check : ℕ → Column → Option Fault) (os : List code.Column) (n j : ℕ) (d : code.Column) → n ≤ length os → j < n
-    → check j (column_seen (get_or os j d)) ≡ None → at_column check j (drop j (columns_seen os n)) ≡ at_column check (j + 1) (drop (j + 1) (columns_seen os n))
-column_next check os n j d l h e =
-    let k = length_seen os n l in
-    ap (at_column check j) (drop_more (columns_seen os n) j (column_seen d) (omega arith) ∙ ap (λ c. c ∷ drop (j + 1) (columns_seen os n)) (seen_at os n j d h))
-    ∙ ap (λ o. first_of (o ∷ at_column check (suc j) (drop (j + 1) (columns_seen os n)) ∷ [])) e
-    ∙ first_one (at_column check (suc j) (drop (j + 1) (columns_seen os n)))
-    ∙ ap (λ i. at_column check i (drop (j + 1) (columns_seen os n))) (sym (add-one j))
-
-pub column_here : (check : ℕ → Column → Option Fault) (os : List code.Column) (n j : ℕ) (d : code.Column) (x : Fault) → n ≤ length os → j < n
-    → check j (column_seen (get_or os j d)) ≡ Some x → at_column check j (drop j (columns_seen os n)) ≡ Some x
-column_here check os n j d x l h e =
-    let k = length_seen os n l in
-    ap (at_column check j) (drop_more (columns_seen os n) j (column_seen d) (omega arith) ∙ ap (λ c. c ∷ drop (j + 1) (columns_seen os n)) (seen_at os n j d h))
-    ∙ ap (λ o. first_of (o ∷ at_column check (suc j) (drop (j + 1) (columns_seen os n)) ∷ [])) e
-
-pub column_done : (check : ℕ → Column → Option Fault) (os : List code.Column) (n j : ℕ) → n ≤ length os → n ≤ j → at_column check j (drop j (columns_seen os n)) ≡ None
-column_done check os n j l h = let k = length_seen os n l in ap (at_column check j) (drop_all j (columns_seen os n) (omega arith))
+-- The first of some checks
 
 first_none : (a : Option Fault) (cs : List (Option Fault)) → first_of (a ∷ cs) ≡ None → (a ≡ None) × (first_of cs ≡ None)
 first_none None cs e = (refl, e)
@@ -123,21 +76,6 @@ none_hold (c ∷ cs) e = let p = first_none c cs e in (p.0, none_hold cs p.1)
 pub first_two_none : (a b : Option Fault) → first_of (a ∷ b ∷ []) ≡ None → (a ≡ None) × (b ≡ None)
 first_two_none None b e = (refl, sym (first_one b) ∙ e)
 first_two_none (Some f) b e = (cc, cc)
-
-column_none : (check : ℕ → Column → Option Fault) (cs : List Column) (i j : ℕ) (d : Column) → at_column check i cs ≡ None → j < length cs → check (i + j) (get_or cs j d) ≡ None
-column_none check [] i j d e h = absurd (omega arith)
-column_none check (c ∷ cs) i zero d e h = rw add-zero (first_two_none (check i c) (at_column check (suc i) cs) e).0
-column_none check (c ∷ cs) i (suc j) d e h =
-    let q : i + suc j ≡ suc i + j = omega arith in
-    rw q (column_none check cs (suc i) j d (first_two_none (check i c) (at_column check (suc i) cs) e).1 (omega arith))
-
--- what held of no column held not of column j
-pub column_passed : (check : ℕ → Column → Option Fault) (os : List code.Column) (n j : ℕ) (d : code.Column) → n ≤ length os → j < n
-    → at_column check 0 (columns_seen os n) ≡ None → check j (column_seen (get_or os j d)) ≡ None
-column_passed check os n j d l h e =
-    let k = length_seen os n l in
-    let z : 0 + j ≡ j = omega arith in
-    ap (check j) (sym (seen_at os n j d h)) ∙ ap (λ i. check i (get_or (columns_seen os n) j (column_seen d))) (sym z) ∙ column_none check (columns_seen os n) 0 j (column_seen d) e (omega arith)
 
 pub refuse_none : (b : Bool) (f : Fault) → refuse b f ≡ None → b ≡ false
 refuse_none true f e = cc
@@ -158,25 +96,10 @@ pub kind_parts : (m : Making) (g : Given) → kind m g ≡ None → (same_kind g
 unfolding kind
 kind_parts m g e =
     let p = first_two_none _ _ e in
-    (not_false (same_kind g.value.kind m.state.kind) (refuse_none _ _ p.0), p.1)
-  where
-    not_false : (b : Bool) → not b ≡ false → b ≡ true
-    not_false true e = refl
-    not_false false e = sym e
+    (not-false _ (refuse_none _ _ p.0), p.1)
 
 pub rows_same : (a b : ℕ) (f : Fault) → refuse (not (eqb a b)) f ≡ None → a ≡ b
-rows_same a b f e = go (eqb a b) refl e
-  where
-    go : (t : Bool) → eqb a b ≡ t → refuse (not t) f ≡ None → a ≡ b
-    go true h k = eqb-true a b h
-    go false h k = absurd (let z : ◌≡◌ {A = ℕ} 0 1 = cc in omega arith)
-
--- one check after the other, in a longer list
-pub stops : (a : Option Fault) (cs : List (Option Fault)) (x : Fault) → Some x ≡ a → Some x ≡ first_of (a ∷ cs)
-stops a cs x e = ap (λ o. first_of (o ∷ cs)) e
-
-pub goes_on : (a : Option Fault) (cs : List (Option Fault)) (r : Option Fault) → None ≡ a → r ≡ first_of cs → r ≡ first_of (a ∷ cs)
-goes_on a cs r e k = k ∙ ap (λ o. first_of (o ∷ cs)) e
+rows_same a b f e = eqb-true a b (not-false _ (refuse_none _ _ e))
 
 -- the last check decides
 pub ends_so : (a r : Option Fault) → r ≡ a → r ≡ first_of (a ∷ [])
@@ -184,33 +107,33 @@ ends_so a r e = e ∙ sym (first_one a)
 
 -- two checks that were made as one
 pub two_stop : (a b : Option Fault) (cs : List (Option Fault)) (x : Fault) → Some x ≡ first_of (a ∷ b ∷ []) → Some x ≡ first_of (a ∷ b ∷ cs)
-two_stop None b cs x e = stops b cs x (e ∙ first_one b)
+two_stop None b cs x e = ap (λ o. first_of (o ∷ cs)) (e ∙ first_one b)
 two_stop (Some f) b cs x e = e
 
 pub two_pass : (a b : Option Fault) → None ≡ first_of (a ∷ b ∷ []) → (None ≡ a) × (None ≡ b)
 two_pass a b e = let p = first_two_none a b (sym e) in (sym p.0, sym p.1)
 
-and_false : (a : Bool) → (a && false) ≡ false
-and_false true = refl
-and_false false = refl
+length_seen : (os : List code.Column) (n : ℕ) → n ≤ length os → length (columns_seen os n) ≡ n
+length_seen os n h = length-take-le n (map column_seen os) (let l = length-map os column_seen in omega arith)
 
-pub cols_same : (m : Making) (v : code.Column) (os : List code.Column) (n : ℕ) → length os ≡ 3
-    → refuse (not (eqb n (length m.order.kinds) && (leb 1 n && leb n 3))) (own COLS) ≡ cols m (given_seen v os n)
+pub cols_same : (m : Making) (g : coded_given.Given) → length g.orders ≡ 3
+    → refuse (not (eqb g.count (length m.order.kinds) && (leb 1 g.count && leb g.count 3))) (own COLS) ≡ cols m (given_seen g)
 unfolding cols
-cols_same m v os n l = go (leb n 3) refl
+cols_same m g l = go g.orders g.count l (leb g.count 3) refl
   where
-    go : (b : Bool) → leb n 3 ≡ b → refuse (not (eqb n (length m.order.kinds) && (leb 1 n && leb n 3))) (own COLS) ≡ refuse (not (eqb (length (columns_seen os n)) (length m.order.kinds) && (leb 1 n && leb n 3))) (own COLS)
-    go true e = ap (λ k. refuse (not (eqb k (length m.order.kinds) && (leb 1 n && leb n 3))) (own COLS)) (sym (length_seen os n (let h = leb-true n 3 e in omega arith)))
-    go false e = rw (e, and_false (leb 1 n), and_false (eqb n (length m.order.kinds)), and_false (eqb (length (columns_seen os n)) (length m.order.kinds)))
+    go : (os : List code.Column) (n : ℕ) → length os ≡ 3 → (b : Bool) → leb n 3 ≡ b → refuse (not (eqb n (length m.order.kinds) && (leb 1 n && leb n 3))) (own COLS) ≡ refuse (not (eqb (length (columns_seen os n)) (length m.order.kinds) && (leb 1 n && leb n 3))) (own COLS)
+    go os n l true e = ap (λ k. refuse (not (eqb k (length m.order.kinds) && (leb 1 n && leb n 3))) (own COLS)) (sym (length_seen os n (let h = leb-true n 3 e in omega arith)))
+    go os n l false e = rw (e, and_right (leb 1 n) false refl, and_right (eqb n (length m.order.kinds)) false refl, and_right (eqb (length (columns_seen os n)) (length m.order.kinds)) false refl)
 
-pub cols_give : (n k : ℕ) (f : Fault) → None ≡ refuse (not (eqb n k && (leb 1 n && leb n 3))) f → (n ≤ 3) × (n ≡ k)
-cols_give n k f e = go (eqb n k) (leb 1 n) (leb n 3) refl refl refl e
-  where
-    go : (p q r : Bool) → eqb n k ≡ p → leb 1 n ≡ q → leb n 3 ≡ r → None ≡ refuse (not (p && (q && r))) f → (n ≤ 3) × (n ≡ k)
-    go true true true a b c h = (leb-true n 3 c, eqb-true n k a)
-    go true true false a b c h = absurd (let z : ◌≡◌ {A = ℕ} 0 1 = cc in omega arith)
-    go true false r a b c h = absurd (let z : ◌≡◌ {A = ℕ} 0 1 = cc in omega arith)
-    go false q r a b c h = absurd (let z : ◌≡◌ {A = ℕ} 0 1 = cc in omega arith)
+-- the order columns that are given are as many as are read
+pub cols_read : (m : Making) (g : Given) → cols m g ≡ None → length (order_columns g) ≡ length m.order.kinds
+unfolding cols
+cols_read m g e = eqb-true _ _ (and_parts _ _ (not-false _ (refuse_none _ _ e))).0
+
+-- a group index for each row
+pub groups_same : (ix : List ℕ) (total n : ℕ) → None ≡ rows_differ 9 (length ix) n
+    → at_row (λ r. leb total (get_or ix r 0)) (λ r. fault GROUP in_accumulator 9 r) (count_up 0 (length ix)) ≡ at_row (λ r. leb total (get_or ix r 0)) (λ r. fault GROUP in_accumulator 9 r) (count_up 0 n)
+groups_same ix total n e = ap (λ k. at_row (λ r. leb total (get_or ix r 0)) (λ r. fault GROUP in_accumulator 9 r) (count_up 0 k)) (rows_same (length ix) n _ (sym e))
 
 pub rows_parts : (g : Given) (marks : Option Flags) → rows g marks ≡ None → at_column (rows_check g.value.rows) 0 (order_columns g) ≡ None
 unfolding rows
@@ -221,3 +144,8 @@ pub reads_alike : (s o : Settings) (held : ℕ) (b : Batch) (marks : Option Flag
     → (first nulls : Bool) → x ≡ batch_declined (made_with s o first nulls) held b marks
 unfolding batch_declined cols kind long
 reads_alike s o held b marks x e first nulls = e
+
+-- the exit of a `?` in the checks of a batch
+pub declines : (s o : Settings) (held : ℕ) (b : Batch) (marks : Option Flags) (r : Result (Unit {0}) coded.Fault) (e : coded.Fault) → IsErrAnd r (λ y. y ≡ e)
+    → Some (fault_seen e) ≡ batch_declined (reading s o) held b marks → (first nulls : Bool) → declined_seen r ≡ batch_declined (made_with s o first nulls) held b marks
+declines s o held b marks r e h k = reads_alike s o held b marks (declined_seen r) (exits r e _ h k)

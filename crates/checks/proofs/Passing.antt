@@ -1,6 +1,6 @@
 -- What a batch that no check declines gives to the calls of state and order.
 use Rattle.std.proofs.Common.{◌≡◌, ℕ, zero, suc, ◌+◌, ◌<◌, ◌≤◌, Bool, true, false, cond, not, ltb, leb, List, [], ◌∷◌, length, get_or, Some, None, Option, sym, refl, ap, ◌∙◌, ⊎_elim, arith}
-use Rattle.std.proofs.lemmas.Bool.{lt-ltb, ltb-false, leb-false, cases_eq}
+use Rattle.std.proofs.lemmas.Bool.{lt-ltb, not-false, ltb-false, leb-false, cases_eq}
 use Rattle.column.specs.Cells.{same_kind}
 use Rattle.column.specs.Columns.{Column, Flags, cell_at, count_up}
 use Rattle.column.specs.Faults.{Fault, fault, KIND, ROWS, LONG, GROUP, in_state, in_order, in_accumulator}
@@ -8,13 +8,8 @@ use Rattle.tables.specs.Meaning.{Settings, StateMeaning, state_of}
 use Rattle.tables.specs.Refusals.{cell_refused, key_unfit, key_refused, cols_fit, some_column, other_kind, past_column, untaken}
 use Rattle.book.specs.Winners.{Making}
 use Rattle.book.specs.Batches.{Given, Batch, order_columns, every_row}
-use Rattle.book.specs.Declines.{at_row, at_column, order_column, cols, kind, long, rows_check, batch_checks, batch_declined}
-use Rattle.checks.specs.Seen.{kind_check, long_check}
+use Rattle.book.specs.Declines.{at_row, at_column, order_column, cols, kind, kind_check, long, long_check, rows_check, batch_checks, batch_declined}
 use Rattle.checks.proofs.Checking.{refuse_none, kind_parts, rows_parts, rows_same, first_two_none, none_hold}
-
-not_false : (b : Bool) → not b ≡ false → b ≡ true
-not_false true e = refl
-not_false false e = sym e
 
 some_column_none : (check : ℕ → Column → Option Fault) (p : ℕ → Column → Bool) → ((j : ℕ) (c : Column) → check j c ≡ None → p j c ≡ false)
     → (cs : List Column) (i : ℕ) → at_column check i cs ≡ None → some_column p i cs ≡ false
@@ -64,7 +59,7 @@ module _ (m : Making) (g : Given) (col : cols m g ≡ None) (kin : kind m g ≡ 
   unfolding cell_refused
   cell_passes s is r h =
       let k : same_kind g.value.kind (state_of s).kind ≡ true = ap (λ (x : StateMeaning). same_kind g.value.kind x.kind) (sym is) ∙ (kind_parts m g kin).0 in
-      let l : s.takes 0 (cell_at g.value r) ≡ true = ap (λ (x : StateMeaning). x.takes (cell_at g.value r)) (sym is) ∙ not_false _ (row_none (λ r. not (m.state.takes (cell_at g.value r))) (λ r. fault LONG in_state 0 r) 0 g.value.rows r long_parts.0 (omega arith) (omega arith)) in
+      let l : s.takes 0 (cell_at g.value r) ≡ true = ap (λ (x : StateMeaning). x.takes (cell_at g.value r)) (sym is) ∙ not-false _ (row_none (λ r. not (m.state.takes (cell_at g.value r))) (λ r. fault LONG in_state 0 r) 0 g.value.rows r long_parts.0 (omega arith) (omega arith)) in
       rw (k, lt-ltb r g.value.rows h, l)
 
 pub passed : (s : Settings) (m : Making) (held : ℕ) (b : Batch) (marks : Option Flags) → m.state ≡ state_of s → batch_declined m held b marks ≡ None → Passed s m held b

@@ -1,28 +1,28 @@
 -- Seen: the columns of a call and how an accumulator reads them, in the words of the book.
---   given_seen, batch_of   the columns and the batch of a call
+--   given_seen, batch_seen   the columns and the batch of a call
 --   made_with   a making by the settings of its state and its order, FIRST or LAST, and the null policy
 --   reading     a making of which only the settings matter: no check looks at FIRST or LAST, or at the null policy
---   kind_check  KIND in order column j, where these kinds are read
---   long_check  LONG in order column j, at the lowest of some rows, where these cells are taken
-use Rattle.std.specs.Prelude.{ℕ, Bool, true, false, not, List, map, Option}
-use Rattle.column.specs.Cells.{Kind, Cell}
+--   FindsAtColumn   what a check answers in a column declines as a function of the column says
+--   FindsAtRow      what a check answers in a row is a refusal where a test of the row holds
+use Rattle.std.specs.Prelude.{◌≡◌, ℕ, Bool, true, false, map, Option, Result}
 use Rattle.column.specs.Checks.{refuse}
 use Rattle.column.specs.Columns as Columns
-use Rattle.column.specs.Columns.{cell_at}
-use Rattle.column.specs.Faults.{Fault, fault, KIND, LONG, in_order}
+use Rattle.column.specs.Faults as Faults
 use Rattle.column.specs.Seen.{column_seen}
 use Rattle.column.specs.declared.Column.{Column}
 use Rattle.tables.specs.Meaning.{Settings, state_of}
-use Rattle.tables.specs.Refusals.{other_kind}
 use Rattle.book.specs.Winners.{Making}
-use Rattle.book.specs.Batches.{Given, Batch}
-use Rattle.book.specs.Declines.{at_row, order_column}
+use Rattle.book.specs.Batches as Batches
+use Rattle.faults.specs.declared.Fault.{Fault}
+use Rattle.faults.specs.Reported.{declined_seen}
+use Rattle.checks.specs.declared.Given.{Given}
+use Rattle.checks.specs.declared.Batch.{Batch}
 
-abbrev pub given_seen : Column → List Column → ℕ → Given
-given_seen v os n = record { value = column_seen v; orders = map column_seen os; count = n }
+abbrev pub given_seen : Given → Batches.Given
+given_seen g = record { value = column_seen g.value; orders = map column_seen g.orders; count = g.count }
 
-abbrev pub batch_of : Column → List Column → ℕ → List ℕ → ℕ → Batch
-batch_of v os n ix total = record { columns = given_seen v os n; indices = ix; total = total }
+abbrev pub batch_seen : Batch → Batches.Batch
+batch_seen b = record { columns = given_seen b.columns; indices = b.indices.now; total = b.total }
 
 abbrev pub made_with : Settings → Settings → Bool → Bool → Making
 made_with s o first nulls = record { state = state_of s; order = o; first = first; ignore_nulls = nulls }
@@ -30,8 +30,9 @@ made_with s o first nulls = record { state = state_of s; order = o; first = firs
 abbrev pub reading : Settings → Settings → Making
 reading s o = made_with s o true false
 
-abbrev pub kind_check : List Kind → ℕ → Columns.Column → Option Fault
-kind_check ks j c = refuse (other_kind ks j c) (fault KIND in_order (order_column j) 0)
+-- by what a check may answer
+abbrev pub FindsAtColumn : (ℕ → Column → Result (Unit {0}) Fault → Type 0) → (ℕ → Columns.Column → Option Faults.Fault) → Type 0
+FindsAtColumn answers finds = (j : ℕ) (c : Column) (r : Result (Unit {0}) Fault) → answers j c r → declined_seen r ≡ finds j (column_seen c)
 
-abbrev pub long_check : (ℕ → Cell → Bool) → List ℕ → ℕ → Columns.Column → Option Fault
-long_check takes rs j c = at_row (λ r. not (takes j (cell_at c r))) (λ r. fault LONG in_order (order_column j) r) rs
+abbrev pub FindsAtRow : (ℕ → Result (Unit {0}) Fault → Type 0) → (ℕ → Bool) → (ℕ → Faults.Fault) → Type 0
+FindsAtRow answers test f = (row : ℕ) (r : Result (Unit {0}) Fault) → answers row r → declined_seen r ≡ refuse (test row) (f row)

@@ -1,13 +1,33 @@
 // The checks of a batch, and of a conversion's columns, each call's in its order, for every value state and row order.
 #![tactic(auto)]
 
-mod batch;
-mod columns;
+ghost use Rattle.std.specs.Prelude.{◌≡◌, length};
+
+mod calls;
 mod groups;
 mod kinds;
 mod rows;
 mod taken;
+mod walks;
 
-pub use batch::check_batch;
-pub use columns::check_columns;
-pub use rows::column_number;
+pub use calls::{check_batch, check_columns};
+use column::{BoolColumn, Column};
+
+// The columns of a call: a value column, and the first `count` of an array of order columns, as they come into public calls by a rule of the project.
+#[derive(Clone, Copy)]
+pub struct Given<'a> {
+    pub value: Column<'a>,
+    pub orders: [Column<'a>; 3],
+    pub count: usize,
+    // Behind a reference the length of an array is not known without this.
+    ghost three: { length orders ≡ 3 },
+}
+
+// A batch: its columns, a filter or flags, a group index for each row, and the total number of groups.
+#[derive(Clone, Copy)]
+pub struct Batch<'a> {
+    pub columns: Given<'a>,
+    pub filter: Option<BoolColumn<'a>>,
+    pub indices: &'a [usize],
+    pub total: usize,
+}

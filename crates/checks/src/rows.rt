@@ -1,36 +1,21 @@
 // ROWS: unequal row counts.
-ghost use Rattle.std.specs.Prelude.{◌≡◌, ◌≤◌};
-ghost use Rattle.column.specs.Seen.{column_seen, columns_seen, marks_seen};
-ghost use Rattle.book.specs.Declines.{at_column, order_column, rows, rows_differ, rows_check, flag_rows};
-ghost use Rattle.faults.specs.Reported.{declined_seen};
+ghost use Rattle.std.specs.Prelude.{◌≡◌};
+ghost use Rattle.column.specs.Seen.{column_seen, marks_seen};
+ghost use Rattle.book.specs.Declines.{rows, rows_differ, rows_check};
+ghost use Rattle.faults.specs.Reported.{declined_seen, place_number};
 ghost use Rattle.checks.specs.Seen.{given_seen};
 
+use crate::Given;
+use crate::walks::at_column;
 use column::{BoolColumn, Column};
-use faults::{Fault, OwnFault, own};
-
-// How many rows a filter has.
-fn filter_rows(filter: Option<BoolColumn>, rows: usize) -> usize
-    ensures { result ≡ flag_rows (marks_seen filter.entry) rows }
-{
-    match filter {
-        None => rows,
-        Some(flags) => flags.rows,
-    }
-}
-
-// The number of an order column in a fault: 1 to 3, and 3 for any later one.
-pub fn column_number(j: usize) -> u8
-    ensures { result ≡ order_column j }
-{
-    if j < 3 { j as u8 + 1 } else { 3 }
-}
+use faults::{Fault, OwnFault, Place, own};
 
 // ROWS in one column.
-pub(crate) fn same_rows(rows: usize, wanted: usize, column: u8) -> Result<(), Fault>
-    ensures { declined_seen result ≡ rows_differ column rows wanted }
+pub(crate) fn same_rows(rows: usize, wanted: usize, place: Place) -> Result<(), Fault>
+    ensures { declined_seen result ≡ rows_differ (place_number place) rows wanted }
 {
     if rows != wanted {
-        return Err(own(OwnFault::Rows, column, 0));
+        return Err(own(OwnFault::Rows, place, 0));
     }
     Ok(())
 }
@@ -39,30 +24,14 @@ pub(crate) fn same_rows(rows: usize, wanted: usize, column: u8) -> Result<(), Fa
 fn column_rows(j: usize, column: &Column, rows: usize) -> Result<(), Fault>
     ensures { declined_seen result ≡ rows_check rows j (column_seen column.now) }
 {
-    same_rows(column.rows, rows, column_number(j))
-}
-
-// ROWS among the order columns.
-fn order_rows(rows: usize, orders: [Column; 3], count: usize) -> Result<(), Fault>
-    requires { count ≤ 3 }
-    ensures { declined_seen result ≡ at_column (rows_check rows) 0 (columns_seen orders.entry count) }
-{
-    for j in 0..count {
-        column_rows(j, &orders[j], rows)?;
-    }
-    Ok(())
+    same_rows(column.rows, rows, Place::of_key(j))
 }
 
 // ROWS among the order columns, then in the filter.
-pub(crate) fn check_rows(
-    value: Column,
-    orders: [Column; 3],
-    count: usize,
-    filter: Option<BoolColumn>,
-) -> Result<(), Fault>
-    requires { count ≤ 3 }
-    ensures { declined_seen result ≡ rows (given_seen value.entry orders.entry count) (marks_seen filter.entry) }
+pub(crate) fn check_rows(given: &Given, filter: Option<BoolColumn>) -> Result<(), Fault>
+    ensures { declined_seen result ≡ rows (given_seen given.now) (marks_seen filter.entry) }
 {
-    order_rows(value.rows, orders, count)?;
-    same_rows(filter_rows(filter, value.rows), value.rows, 4)
+    let rows = given.value.rows;
+    at_column(given, |j, column| column_rows(j, &column, rows))?;
+    same_rows(filter.map_or(rows, |flags| flags.rows), rows, Place::Marks)
 }

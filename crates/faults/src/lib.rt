@@ -1,10 +1,12 @@
-// Faults: why an accumulator declines a call, with the number, the layer, the column and the row of each refusal.
+// Faults: why an accumulator declines a call, with the number, the layer, the place and the row of each refusal.
 #![tactic(auto)]
 
+mod display;
 mod numbering;
+mod places;
 mod placing;
 
-pub use placing::{order_at, own, state_at};
+pub use placing::{located, own};
 use tables::{OrderFault, StateFault};
 
 // Why an accumulator declines a call on its own account.
@@ -26,18 +28,29 @@ pub enum Refusal {
     Own(OwnFault),
 }
 
-// A refusal with the column and the row where it was met: 0 values, 1 to 3 order columns, 4 filter, 9 none.
+// Where a refusal is met: in the values, in an order column, in a filter or in flags, or in no column at all.
+#[derive(Clone, Copy)]
+pub enum Place {
+    Values,
+    FirstKey,
+    SecondKey,
+    ThirdKey,
+    Marks,
+    Call,
+}
+
+// A refusal with the place and the row where it was met.
 #[derive(Clone, Copy)]
 pub struct Fault {
     pub refusal: Refusal,
-    pub column: u8,
+    pub place: Place,
     pub row: usize,
 }
 
-// A lower layer's refusal, with the column and the row where it was met.
+// A lower layer's refusal, with the place and the row where it was met.
 #[derive(Clone, Copy)]
 pub struct At<F> {
     pub fault: F,
-    pub column: u8,
+    pub place: Place,
     pub row: usize,
 }

@@ -1,68 +1,67 @@
-// A lower layer's refusal inside the accumulator's, with its column and row.
-ghost use Rattle.std.specs.Prelude.{◌≡◌, Ok, Err};
-ghost use Rattle.faults.specs.Reported.{state_placed, order_placed};
+// A lower layer's refusal inside the accumulator's, with its place and its row.
+ghost use Rattle.std.specs.Prelude.{◌≡◌};
+ghost use Rattle.faults.specs.Reported.{own_of, Placed};
 ghost use Rattle.faults.specs.declared.Refusal.TheVariants.{State, Order, Own};
 
-use crate::{At, Fault, OwnFault, Refusal};
-use tables::{OrderFault, StateFault};
+use crate::{At, Fault, OwnFault, Place, Refusal};
+use tables::{OrderFault, StateFault, TableFault};
 
+// By a rule of the project each lower layer's refusal travels in the fault by a `From` of its own.
 impl From<At<StateFault>> for Fault {
-    ghost from_gives = { λ e r. r ≡ record { refusal = State e.fault; column = e.column; row = e.row } };
+    ghost from_gives = { λ e r. r ≡ record { refusal = State e.fault; place = e.place; row = e.row } };
 
     fn from(e: At<StateFault>) -> Fault {
         Fault {
             refusal: Refusal::State(e.fault),
-            column: e.column,
+            place: e.place,
             row: e.row,
         }
     }
 }
 
 impl From<At<OrderFault>> for Fault {
-    ghost from_gives = { λ e r. r ≡ record { refusal = Order e.fault; column = e.column; row = e.row } };
+    ghost from_gives = { λ e r. r ≡ record { refusal = Order e.fault; place = e.place; row = e.row } };
 
     fn from(e: At<OrderFault>) -> Fault {
         Fault {
             refusal: Refusal::Order(e.fault),
-            column: e.column,
+            place: e.place,
             row: e.row,
         }
     }
 }
 
-// Adds the column and the row to a lower layer's refusal.
-fn located<T, F: Copy>(r: Result<T, F>, column: u8, row: usize) -> Result<T, At<F>>
-    ensures { result ≡ elim r [ Ok x ↦ Ok x | Err f ↦ Err (record { fault = f; column = column; row = row }) ] }
-{
-    match r {
-        Ok(x) => Ok(x),
-        Err(fault) => Err(At { fault, column, row }),
+// A group table's refusal is the accumulator's own.
+impl From<At<TableFault>> for Fault {
+    ghost from_gives = { λ e r. r ≡ record { refusal = Own (own_of e.fault); place = e.place; row = e.row } };
+
+    fn from(e: At<TableFault>) -> Fault {
+        let fault = match e.fault {
+            TableFault::Total => OwnFault::Total,
+            TableFault::Shrunk => OwnFault::Shrunk,
+            TableFault::Fewer => OwnFault::Fewer,
+        };
+        own(fault, e.place, e.row)
     }
 }
 
-// A value state's refusal, whole inside the accumulator's.
-pub fn state_at<T>(r: Result<T, StateFault>, column: u8, row: usize) -> Result<T, Fault>
-    ensures { result ≡ state_placed r column row }
+// A lower layer's refusal inside the accumulator's, with the place and the row where it was met: a state's or an order's whole, a group table's as the accumulator's own.
+// A place and a row are two parameters: `At` and `Fault`, which hold them, are made of them here.
+pub fn located<T, F>(r: Result<T, F>, place: Place, row: usize) -> Result<T, Fault>
+where
+    Fault: From<At<F>>,
+    ensures { Placed ⟦<Fault as From<At<F>>>⟧.from_gives r place row result }
 {
-    let taken = located(r, column, row)?;
-    Ok(taken)
-}
-
-// A row order's refusal, whole inside the accumulator's.
-pub fn order_at<T>(r: Result<T, OrderFault>, column: u8, row: usize) -> Result<T, Fault>
-    ensures { result ≡ order_placed r column row }
-{
-    let compared = located(r, column, row)?;
-    Ok(compared)
+    r.map_err(|fault| Fault::from(At { fault, place, row }))
 }
 
 // A refusal of the accumulator's own.
-pub fn own(fault: OwnFault, column: u8, row: usize) -> Fault
-    ensures { result ≡ record { refusal = Own fault; column = column; row = row } }
+pub fn own(fault: OwnFault, place: Place, row: usize) -> Fault
+    ensures { result ≡ record { refusal = Own fault; place = place; row = row } }
 {
     Fault {
         refusal: Refusal::Own(fault),
-        column,
+        place,
         row,
     }
 }

@@ -1,13 +1,17 @@
-use Rattle.std.proofs.Common.{leb, length, get_or, sym, ◌∙◌, arith}
+use Rattle.std.proofs.Common.{leb, Some, sym, ap, ◌∙◌}
+use Rattle.std.specs.Option.{option_map}
 use Rattle.column.specs.Faults.{GROUP, fault, in_accumulator}
-use Rattle.checks.proofs.Checking.{exits, row_here, row_next}
+use Rattle.faults.specs.Reported.{fault_seen}
+use Rattle.checks.proofs.Walking.{row_found}
 use Rattle.checks.proofs.groups.check_groups.Goals as goal
 
-pub returns-in_err-below : goal.returns-in_err-below
-returns-in_err-below c =
-    exits c.from_residual.result _ _ c.from_residual.ensures.1
-    (sym (row_here (λ r. leb c.args.total (get_or c.args.indices.now r 0)) (λ r. fault GROUP in_accumulator 9 r) (length c.args.indices.now) c.loop-row.row _ (omega arith) (sym c.in_err-below.ensures)) ∙ c.loop-row.invariant)
+pub returns-in-Some : goal.returns-in-Some
+returns-in-Some c =
+    ap (λ f. Some (fault_seen f)) c.own.ensures
+    ∙ ap (option_map (λ r. fault GROUP in_accumulator 9 r)) (sym c.in-Some.is ∙ c.first_past.ensures)
+    ∙ row_found (leb c.args.total) (λ r. fault GROUP in_accumulator 9 r) c.args.indices.now
 
-pub loop-row-preserved : goal.loop-row-preserved
-loop-row-preserved c =
-    sym (row_next (λ r. leb c.args.total (get_or c.args.indices.now r 0)) (λ r. fault GROUP in_accumulator 9 r) (length c.args.indices.now) c.loop-row.row (omega arith) (sym c.in_ok-below.ensures)) ∙ c.loop-row.invariant
+pub returns-in-None : goal.returns-in-None
+returns-in-None c =
+    ap (option_map (λ r. fault GROUP in_accumulator 9 r)) (sym c.in-None.is ∙ c.first_past.ensures)
+    ∙ row_found (leb c.args.total) (λ r. fault GROUP in_accumulator 9 r) c.args.indices.now

@@ -1,17 +1,24 @@
-use Rattle.book.specs.Declines.{kind, long}
+use Rattle.std.proofs.Common.{rules}
+use Rattle.std.proofs.iter.Serving.{serving}
+use Rattle.book.specs.Declines.{long}
 use Rattle.checks.proofs.Checking.{exits, first_some, first_then, kind_parts}
+use Rattle.checks.proofs.Walking.{rows_at, unread_at}
+use Rattle.checks.specs.Seen.{given_seen, reading}
 use Rattle.checks.proofs.taken.check_long.Goals as goal
 
-pub values_taken-requires : goal.values_taken-requires
-values_taken-requires g c = (kind_parts _ _ c.requires.kinds).0
+pub at_row-requires : goal.at_row-requires
+at_row-requires g c κs = let k = (kind_parts (reading (g.S.GroupTable.settings c.args.state.now) (g.O.GroupTable.settings c.args.order.now)) (given_seen c.args.given.now) c.requires.kinds).0 in grind (serving, k)
 
-pub returns-in_err-values_taken : goal.returns-in_err-values_taken
+pub returns-in_err-at_row : goal.returns-in_err-at_row
 unfolding long
-returns-in_err-values_taken g c = exits c.from_residual.result _ _ c.from_residual.ensures.1 (first_some _ _ _ c.in_err-values_taken.ensures)
+returns-in_err-at_row g c = exits c.from_residual.result _ _ c.from_residual.ensures.1 (first_some _ _ _ (c.in_err-at_row.ensures _ _ (λ row r h. search rules)))
 
-pub keys_taken-requires : goal.keys_taken-requires
-keys_taken-requires g c = record { few = c.requires.few; read = c.requires.read; kind = (kind_parts _ _ c.requires.kinds).1; alike = c.requires.alike }
+pub at_column-requires : goal.at_column-requires
+at_column-requires g c κs =
+    let u = unread_at (reading (g.S.GroupTable.settings c.args.state.now) (g.O.GroupTable.settings c.args.order.now)) c.args.given.now c.requires.read c.requires.kinds in
+    let s = rows_at c.args.given.now c.requires.alike in
+    grind (serving, u, s)
 
 pub returns : goal.returns
 unfolding long
-returns g c = first_then _ _ _ c.in_ok-values_taken.ensures c.keys_taken.ensures
+returns g c = first_then _ _ _ (c.in_ok-at_row.ensures _ _ (λ row r h. search rules)) (c.at_column.ensures _ (λ j k r h. search rules))

@@ -1,9 +1,10 @@
-use Rattle.std.proofs.Common.{ap, ◌∙◌, ap₂}
+use Rattle.std.proofs.Common.{ap, ◌∙◌}
 use Rattle.column.specs.Seen.{column_seen}
-use Rattle.book.specs.Declines.{order_column}
 use Rattle.checks.proofs.Checking.{order_long_is}
-use Rattle.faults.specs.Reported.{declined_seen, order_placed}
+use Rattle.faults.specs.Reported.{declined_seen, placed}
+use Rattle.faults.specs.declared.Refusal.TheVariants.{Order}
+use Rattle.faults.proofs.Whole.{placed_whole}
 use Rattle.checks.proofs.taken.order_taken.Goals as goal
 
 pub returns : goal.returns
-returns g c = ap declined_seen (c.order_at.ensures ∙ ap₂ (λ x n. order_placed x n c.args.row) c.takes_named.ensures c.column_number.ensures) ∙ order_long_is _ c.args.j (column_seen c.args.column.now) c.args.row (order_column c.args.j) c.requires.read c.requires.kind c.requires.within
+returns g c = ap declined_seen (placed_whole Order _ _ _ _ c.located.ensures ∙ ap (λ x. placed Order x c.of_key.result c.args.row) c.takes_named.ensures) ∙ order_long_is _ c.args.j (column_seen c.args.column.now) c.args.row c.of_key.result c.of_key.ensures c.requires.read c.requires.within
