@@ -1,34 +1,34 @@
 -- What `evaluate` does to what is held.
-use Rattle.std.proofs.Common.{◌≡◌, ℕ, ◌<◌, ◌≤◌, Bool, true, false, cond, not, List, [], ◌∷◌, map, length, get_or, take, drop, IsErrAnd, IfOk, Some, None, Ok, Err, Option, Result, sym, refl, ap, ◌∙◌, arith}
-use lib.ListN.{length-map}
-use Rattle.std.proofs.lemmas.List.{drop-map, length-take-le, take-map}
+use Rattle.std.proofs.Common.{◌≡◌, ℕ, ◌<◌, ◌≤◌, Bool, true, false, cond, not, ltb, List, [], ◌∷◌, map, length, get_or, take, drop, IsErrAnd, Some, None, Ok, Err, Option, Result, sym, refl, ap, ◌∙◌, arith}
+use Rattle.std.proofs.lemmas.List.{drop-map, take-map}
 use Rattle.std.proofs.lemmas.Result.{err_from_is_err_and}
-use Rattle.std.proofs.lemmas.Bool.{le-ltb, lt-ltb}
-use Rattle.std.specs.Option.{option_map}
+use Rattle.std.proofs.lemmas.Bool.{le-ltb, lt-ltb, ltb-false, ltb-true}
 use Rattle.column.specs.Cells.{Cell, Kind, null}
 use Rattle.column.specs.Checks.{first_of, outcome, refuse, unless_refused}
 use Rattle.column.specs.Faults.{FEWER, SPACE, fault, in_state}
 use Rattle.layout.specs.Layout.{Parts, fits, laid_out, written}
 use Rattle.tables.proofs.Declining.{drop_fine}
-use Rattle.tables.specs.Meaning.{Settings, StateMeaning, first_cells, state_of}
-use Rattle.tables.specs.Refusals.{cells_laid, writing}
-use Rattle.book.proofs.Following.{held_after, reply}
+use Rattle.tables.specs.Meaning.{Settings, first_cells, state_of}
+use Rattle.tables.specs.Refusals.{cells_laid, dropping, writing}
+use Rattle.tables.specs.declared.TableFault.TheVariants as table_fault
+use Rattle.tables.specs.declared.TableFault.{TableFault}
+use Rattle.tables.specs.declared.StateFault.TheVariants as state_fault
+use Rattle.tables.specs.declared.StateFault.{StateFault}
+use Rattle.tables.specs.declared.table.GroupTable.{Ghosts}
 use Rattle.book.specs.Calls.{dropped, evaluate, refused, Result as ResultSeen}
 use Rattle.book.specs.Declines.{own}
 use Rattle.book.specs.Emission.{Outputs, To, emits, evaluate_declined, value_parts, value_shown}
 use Rattle.book.specs.Winners.{Making, Row}
-use Rattle.grouped.specs.Accumulators.{Shown, Shows, flags_of, is_set, key_cells, making}
-use Rattle.faults.specs.Reported.{fault_seen, order_placed, state_placed}
-use Rattle.grouped.specs.Seen.{emission_seen, values_only}
+use Rattle.faults.specs.Reported.{fault_seen, own_of, placed}
+use Rattle.faults.specs.declared.OwnFault.TheVariants as own_fault
 use Rattle.faults.specs.declared.Fault as coded
-use Rattle.faults.specs.declared.Refusal.TheVariants.{State}
-use Rattle.tables.specs.declared.StateFault.TheVariants as state_fault
-use Rattle.tables.specs.declared.StateFault.{StateFault}
-use Rattle.tables.specs.declared.OrderFault.{OrderFault}
-use Rattle.tables.specs.declared.TableFault.{TableFault}
+use Rattle.faults.specs.declared.Place.TheVariants.{Call, Values}
+use Rattle.faults.specs.declared.Refusal.TheVariants.{Own, State}
+use Rattle.grouped.specs.Accumulators.{Stands, is_set, key_cells, held, making, order_settings}
+use Rattle.grouped.specs.Seen.{emission_answer, values_only}
 use Rattle.grouped.specs.declared.notice.ShiftNotice.{ShiftNotice}
-use Rattle.grouped.specs.declared.slots.SlotTable.{SlotTable}
 use Rattle.grouped.specs.declared.FirstLastGroupsAccumulator.{FirstLastGroupsAccumulator}
+use Rattle.grouped.proofs.Holding.{flags_length, Does}
 
 -- what writing out and dropping the first n cells leaves, where r says that they fit
 pub record Took (k : Kind) (n : ℕ) (cells : List Cell) (before : Parts) (r : Bool) (cells' : List Cell) (after_it : Parts) : Type 0 where
@@ -66,41 +66,52 @@ taking s es es' n before after_it h p q =
     kept_parts false new = refl
 
 pub took_on : (s : Settings) (es : List (List Cell)) (n : ℕ) (before : Parts) (r : Result (Unit {0}) StateFault) (x : Unit {0}) → n ≤ length es
-    → r ≡ outcome (writing s es n before) tt → Ok x ≡ state_placed r 0 0 → fits (cells_laid s es n) before ≡ true
+    → r ≡ outcome (writing s es n before) tt → Ok x ≡ placed State r Values 0 → fits (cells_laid s es n) before ≡ true
 took_on s es n before r x h e k =
-    go (fits (cells_laid s es n) before) (k ∙ ap (λ y. state_placed y 0 0) (e ∙ ap (λ o. outcome o tt) (writing_is s es n before h)))
+    go (fits (cells_laid s es n) before) (k ∙ ap (λ y. placed State y Values 0) (e ∙ ap (λ o. outcome o tt) (writing_is s es n before h)))
   where
-    go : (b : Bool) → Ok x ≡ state_placed (outcome (refuse (not b) state_fault.Space) (tt {0})) 0 0 → b ≡ true
+    go : (b : Bool) → Ok x ≡ placed State (outcome (refuse (not b) state_fault.Space) (tt {0})) Values 0 → b ≡ true
     go true q = refl
     go false q = absurd (let z : ◌≡◌ {A = ℕ} 0 1 = cc in omega arith)
 
 pub took_not : (s : Settings) (es : List (List Cell)) (n : ℕ) (before : Parts) (r : Result (Unit {0}) StateFault) (f : coded.Fault) → n ≤ length es
-    → r ≡ outcome (writing s es n before) tt → Err f ≡ state_placed r 0 0 → (fits (cells_laid s es n) before ≡ false) × (fault_seen f ≡ fault SPACE in_state 0 0)
+    → r ≡ outcome (writing s es n before) tt → Err f ≡ placed State r Values 0 → (fits (cells_laid s es n) before ≡ false) × (fault_seen f ≡ fault SPACE in_state 0 0)
 took_not s es n before r f h e k =
-    go (fits (cells_laid s es n) before) (k ∙ ap (λ y. state_placed y 0 0) (e ∙ ap (λ o. outcome o tt) (writing_is s es n before h)))
+    go (fits (cells_laid s es n) before) (k ∙ ap (λ y. placed State y Values 0) (e ∙ ap (λ o. outcome o tt) (writing_is s es n before h)))
   where
     err_inj : (x y : coded.Fault) → ◌≡◌ {A = Result (Unit {0}) coded.Fault} (Err x) (Err y) → x ≡ y
     err_inj x y q = cc
 
-    go : (b : Bool) → Err f ≡ state_placed (outcome (refuse (not b) state_fault.Space) (tt {0})) 0 0 → (b ≡ false) × (fault_seen f ≡ fault SPACE in_state 0 0)
+    go : (b : Bool) → Err f ≡ placed State (outcome (refuse (not b) state_fault.Space) (tt {0})) Values 0 → (b ≡ false) × (fault_seen f ≡ fault SPACE in_state 0 0)
     go true q = absurd (let z : ◌≡◌ {A = ℕ} 0 1 = cc in omega arith)
-    go false q = (refl, ap fault_seen (err_inj f (record { refusal = State state_fault.Space; column = 0; row = 0 }) q))
+    go false q = (refl, ap fault_seen (err_inj f (record { refusal = State state_fault.Space; place = Values; row = 0 }) q))
+
+-- more groups are asked for than are held
+pub fewer_are : (held n : ℕ) (r : Result (Unit {0}) TableFault) (f : coded.Fault) → r ≡ outcome (dropping held n) tt
+    → Err f ≡ placed (λ g. Own (own_of g)) r Call 0 → (held < n) × (fault_seen f ≡ own FEWER)
+unfolding dropping
+fewer_are held n r f e k = go (ltb held n) refl (k ∙ ap (λ y. placed (λ g. Own (own_of g)) y Call 0) e)
+  where
+    err_inj : (x y : coded.Fault) → ◌≡◌ {A = Result (Unit {0}) coded.Fault} (Err x) (Err y) → x ≡ y
+    err_inj x y q = cc
+
+    go : (b : Bool) → ltb held n ≡ b → Err f ≡ placed (λ g. Own (own_of g)) (outcome (first_of (refuse b table_fault.Fewer ∷ [])) (tt {0})) Call 0 → (held < n) × (fault_seen f ≡ own FEWER)
+    go true h q = (ltb-true held n h, ap fault_seen (err_inj f (record { refusal = Own own_fault.Fewer; place = Call; row = 0 }) q))
+    go false h q = absurd (let z : ◌≡◌ {A = ℕ} 0 1 = cc in omega arith)
+
+-- as many groups as are asked for are held
+pub enough_are : (held n : ℕ) (r : Result (Unit {0}) TableFault) (x : Unit {0}) → r ≡ outcome (dropping held n) tt
+    → Ok x ≡ placed (λ g. Own (own_of g)) r Call 0 → n ≤ held
+unfolding dropping
+enough_are held n r x e k = go (ltb held n) refl (k ∙ ap (λ y. placed (λ g. Own (own_of g)) y Call 0) e)
+  where
+    go : (b : Bool) → ltb held n ≡ b → Ok x ≡ placed (λ g. Own (own_of g)) (outcome (first_of (refuse b table_fault.Fewer ∷ [])) (tt {0})) Call 0 → n ≤ held
+    go true h q = absurd (let z : ◌≡◌ {A = ℕ} 0 1 = cc in omega arith)
+    go false h q = ltb-false held n h
 
 -- the exit of a `?` in an emission
-pub emission_refused : (r : Result ShiftNotice coded.Fault) (e : coded.Fault) → IsErrAnd r (λ y. y ≡ e) → emission_seen r ≡ refused (fault_seen e)
+pub emission_refused : (r : Result ShiftNotice coded.Fault) (e : coded.Fault) → IsErrAnd r (λ y. y ≡ e) → emission_answer r ≡ refused (fault_seen e)
 emission_refused r e h = let p = err_from_is_err_and r h in rw (p.1, p.2)
-
-pub none_unspent : (r : Result ShiftNotice coded.Fault) (e : coded.Fault) → IsErrAnd r (λ y. y ≡ e) → IfOk r (λ t. t.dropped ≤ 256)
-none_unspent r e h = let p = err_from_is_err_and r h in rw p.1 tt
-
--- the order drops as many keys as it holds, and no more are asked of it
-pub dropped_on : (o : Option TableFault) (d : TableFault → OrderFault) (r : Result (Unit {0}) OrderFault) (x : Unit {0}) (k n : ℕ) → r ≡ outcome (option_map d o) tt → Ok x ≡ order_placed r k n → o ≡ None
-dropped_on None d r x k n a e = refl
-dropped_on (Some y) d r x k n a e = let z = e ∙ ap (λ t. order_placed t k n) a in cc
-
-pub dropped_not : (o : Option TableFault) (d : TableFault → OrderFault) (r : Result (Unit {0}) OrderFault) (f : coded.Fault) (k n : ℕ) → r ≡ outcome (option_map d o) tt → Err f ≡ order_placed r k n → o ≡ None → ⊥
-dropped_not None d r f k n a e h = let z = e ∙ ap (λ t. order_placed t k n) a in let y : ◌≡◌ {A = ℕ} 0 1 = cc in omega arith
-dropped_not (Some x) d r f k n a e h = let y : ◌≡◌ {A = ℕ} 0 1 = cc in omega arith
 
 declined_fewer : (m : Making) (ws : List (Option Row)) (to : To) (o : Outputs) → length ws < emits to (length ws) → evaluate_declined m ws to o ≡ Some (own FEWER)
 unfolding evaluate_declined
@@ -116,67 +127,61 @@ declined_none : (m : Making) (ws : List (Option Row)) (to : To) (o : Outputs) �
 unfolding evaluate_declined
 declined_none m ws to o h e = rw (le-ltb (length ws) (emits to (length ws)) h, e)
 
-module _ {S O : Type 0} (v : Shown S O) (a : FirstLastGroupsAccumulator S O) (to : To) (n : ℕ) (is : n ≡ emits to a.slots.len) (ws : List (Option Row)) (h : Shows v a ws) where
-  held_many : a.slots.len ≡ length ws
-  held_many = sym (length-take-le a.slots.len a.slots.set a.slots.few) ∙ ap length h.flags ∙ length-map ws is_set
-
-  pub values_many : length (v.values a.state) ≡ a.slots.len
-  values_many = ap length h.values ∙ length-map ws value_shown ∙ sym held_many
-
-  pub keys_many : length (v.keys a.order) ≡ a.slots.len
-  keys_many = ap length h.keys ∙ length-map ws (key_cells (v.order_of a.order).kinds) ∙ sym held_many
+module _ {S O F G : Type 0} {s : Ghosts S F} {o : Ghosts O G} (a : FirstLastGroupsAccumulator S O F G s o) (to : To) (n : ℕ) (is : n ≡ emits to (length a.slots.set)) (ws : List (Option Row)) (h : Stands a ws) where
+  held_many : length a.slots.set ≡ length ws
+  held_many = flags_length a ws h
 
   emitted_is : emits to (length ws) ≡ n
   emitted_is = ap (emits to) (sym held_many) ∙ sym is
 
-  pub eval_fewer : (o : Outputs) (r : ResultSeen) → r ≡ refused (own FEWER) → a.slots.len < n
-      → (record { result = r; outputs = o } ≡ reply (making v a) ws (evaluate to) o) × Shows v a (held_after (making v a) ws (evaluate to) o)
-  eval_fewer o r k l =
-      let e = declined_fewer (making v a) ws to o (let p = held_many in let q = emitted_is in omega arith) in
-      (rw (k, e), rw e h)
+  pub eval_fewer : (before : Outputs) (r : ResultSeen) → r ≡ refused (own FEWER) → length a.slots.set < n
+      → Does a ws (evaluate to) before (record { result = r; outputs = before }) a
+  eval_fewer before r k l =
+      let e = declined_fewer (making a) ws to before (let p = held_many in let q = emitted_is in omega arith) in
+      record { replies = rw (k, e); stands = rw e h }
 
-  cells_are : map value_shown (take (emits to (length ws)) ws) ≡ take n (v.values a.state)
+  cells_are : map value_shown (take (emits to (length ws)) ws) ≡ take n (first_cells (held a).cells)
   cells_are = ap (λ k. map value_shown (take k ws)) emitted_is ∙ sym (take-map value_shown n ws) ∙ ap (take n) (sym h.values)
 
-  module _ (s : S) (kept : v.state_of s ≡ v.state_of a.state) (r : Bool) (before after_it : Parts)
-      (took : Took (v.state_of a.state).kind n (v.values a.state) before r (v.values s) after_it) (within : n ≤ a.slots.len) where
-    fits_are : fits (value_parts (making v a) (take (emits to (length ws)) ws)) before ≡ r
-    fits_are = ap (λ cs. fits (laid_out (v.state_of a.state).kind cs) before) cells_are ∙ sym took.fits_so
+  module _ (a' : FirstLastGroupsAccumulator S O F G s o) (same : order_settings a' ≡ order_settings a) (r : Bool) (before after_it : Parts)
+      (took : Took (making a).state.kind n (first_cells (held a).cells) before r (first_cells (held a').cells) after_it) (within : n ≤ length a.slots.set) where
+    fits_are : fits (value_parts (making a) (take (emits to (length ws)) ws)) before ≡ r
+    fits_are = ap (λ cs. fits (laid_out (making a).state.kind cs) before) cells_are ∙ sym took.fits_so
 
     inside : emits to (length ws) ≤ length ws
     inside = let p = held_many in let q = emitted_is in omega arith
 
-    pub eval_short : r ≡ false → (x : ResultSeen) → x ≡ refused (fault SPACE in_state 0 0)
-        → (record { result = x; outputs = values_only after_it } ≡ reply (making v a) ws (evaluate to) (values_only before))
-        × Shows v (record { state = s; order = a.order; slots = a.slots; pick_first_in_group = a.pick_first_in_group; ignore_nulls = a.ignore_nulls }) (held_after (making v a) ws (evaluate to) (values_only before))
-    eval_short f x is-so =
-        let e = declined_short (making v a) ws to (values_only before) inside (fits_are ∙ f) in
-        let w : after_it ≡ before = took.written_so ∙ ap (λ b. cond b (written (laid_out (v.state_of a.state).kind (take n (v.values a.state))) before) before) f in
-        (rw (is-so, e, w), rw e (record { flags = h.flags; values = took.cells_so ∙ ap (λ b. cond b (drop n (v.values a.state)) (v.values a.state)) f ∙ h.values; keys = h.keys }))
+    kinds_same : {X : Type 0} (f : List Kind → X) → f (order_settings a).kinds ≡ f (order_settings a').kinds
+    kinds_same f = ap (λ (x : Settings). f x.kinds) (sym same)
 
-    pub eval_done : (q : O) → v.order_of q ≡ v.order_of a.order → v.keys q ≡ drop n (v.keys a.order)
-        → (t : SlotTable) → flags_of t ≡ drop n (flags_of a.slots) → r ≡ true → (x : ResultSeen) → x ≡ dropped n
-        → (record { result = x; outputs = values_only after_it } ≡ reply (making v a) ws (evaluate to) (values_only before))
-        × Shows v (record { state = s; order = q; slots = t; pick_first_in_group = a.pick_first_in_group; ignore_nulls = a.ignore_nulls }) (held_after (making v a) ws (evaluate to) (values_only before))
-    eval_done q same keys-drop t flags-drop f x is-so =
-        let e = declined_none (making v a) ws to (values_only before) inside (fits_are ∙ f) in
-        let w : after_it ≡ written (value_parts (making v a) (take (emits to (length ws)) ws)) before =
-        took.written_so ∙ ap (λ b. cond b (written (laid_out (v.state_of a.state).kind (take n (v.values a.state))) before) before) f
-        ∙ ap (λ cs. written (laid_out (v.state_of a.state).kind cs) before) (sym cells_are) in
-        let d = sym emitted_is in (
-          rw (is-so, e, w) (ap (λ k. record { result = dropped k; outputs = values_only (written (value_parts (making v a) (take (emits to (length ws)) ws)) before) }) d),
-          rw e (record {
+    pub eval_short : a'.slots.set ≡ a.slots.set → (held a').keys ≡ (held a).keys → r ≡ false → (x : ResultSeen) → x ≡ refused (fault SPACE in_state 0 0)
+        → Does a ws (evaluate to) (values_only before) (record { result = x; outputs = values_only after_it }) a'
+    eval_short flags-same keys-same f x is-so =
+        let e = declined_short (making a) ws to (values_only before) inside (fits_are ∙ f) in
+        let w : after_it ≡ before = took.written_so ∙ ap (λ b. cond b (written (laid_out (making a).state.kind (take n (first_cells (held a).cells))) before) before) f in
+        record {
+          replies = rw (is-so, e, w);
+          stands = rw e (record {
+            flags = flags-same ∙ h.flags;
+            values = took.cells_so ∙ ap (λ b. cond b (drop n (first_cells (held a).cells)) (first_cells (held a).cells)) f ∙ h.values;
+            keys = keys-same ∙ h.keys ∙ kinds_same (λ ks. map (key_cells ks) ws);
+          });
+        }
+
+    pub eval_done : a'.slots.set ≡ drop n a.slots.set → (held a').keys ≡ drop n (held a).keys → r ≡ true → (x : ResultSeen) → x ≡ dropped n
+        → Does a ws (evaluate to) (values_only before) (record { result = x; outputs = values_only after_it }) a'
+    eval_done flags-drop keys-drop f x is-so =
+        let e = declined_none (making a) ws to (values_only before) inside (fits_are ∙ f) in
+        let w : after_it ≡ written (value_parts (making a) (take (emits to (length ws)) ws)) before =
+        took.written_so ∙ ap (λ b. cond b (written (laid_out (making a).state.kind (take n (first_cells (held a).cells))) before) before) f
+        ∙ ap (λ cs. written (laid_out (making a).state.kind cs) before) (sym cells_are) in
+        let d = sym emitted_is in
+        record {
+          replies = rw (is-so, e, w) (ap (λ k. record { result = dropped k; outputs = values_only (written (value_parts (making a) (take (emits to (length ws)) ws)) before) }) d);
+          stands = rw e (record {
             flags = flags-drop ∙ ap (drop n) h.flags ∙ drop-map is_set n ws ∙ ap (λ k. map is_set (drop k ws)) d;
-            values = took.cells_so ∙ ap (λ b. cond b (drop n (v.values a.state)) (v.values a.state)) f ∙ ap (drop n) h.values ∙ drop-map value_shown n ws ∙ ap (λ k. map value_shown (drop k ws)) d;
-            keys = keys-drop ∙ ap (drop n) h.keys ∙ drop-map (key_cells (v.order_of a.order).kinds) n ws ∙ ap (λ k. map (key_cells (v.order_of a.order).kinds) (drop k ws)) d
-                ∙ ap (λ x. map (key_cells x.kinds) (drop (emits to (length ws)) ws)) (sym same);
-          }),
-        )
-
--- the making follows from the two settings and the two flags
-pub remade : (l i : Bool) {s s' : StateMeaning} {o o' : Settings} → s ≡ s' → o ≡ o'
-    → ◌≡◌ {A = Making} (record { state = s; order = o; first = l; ignore_nulls = i }) (record { state = s'; order = o'; first = l; ignore_nulls = i })
-remade l i p q = λ k. record { state = p k; order = q k; first = l; ignore_nulls = i }
-
-pub cells_long : (es : List (List Cell)) → length (first_cells es) ≡ length es
-cells_long es = length-map es (λ e. get_or e 0 null)
+            values = took.cells_so ∙ ap (λ b. cond b (drop n (first_cells (held a).cells)) (first_cells (held a).cells)) f ∙ ap (drop n) h.values ∙ drop-map value_shown n ws ∙ ap (λ k. map value_shown (drop k ws)) d;
+            keys = keys-drop ∙ ap (drop n) h.keys ∙ drop-map (key_cells (order_settings a).kinds) n ws ∙ ap (λ k. map (key_cells (order_settings a).kinds) (drop k ws)) d
+                ∙ kinds_same (λ ks. map (key_cells ks) (drop (emits to (length ws)) ws));
+          });
+        }

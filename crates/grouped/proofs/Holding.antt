@@ -1,26 +1,44 @@
 -- A call that does to the held winners what the book says obeys its contract.
-use Rattle.std.proofs.Common.{◌≡◌, List, length, Option, sym, ap, ◌∙◌, subst}
+use Rattle.std.proofs.Common.{◌≡◌, List, length, Option, sym, refl, ap, ◌∙◌, subst}
 use lib.ListN.{length-map}
-use Rattle.tables.specs.Meaning.{StateLaws, OrderLaws}
+use Rattle.tables.specs.Meaning.{StateLaws, OrderLaws, state_of}
+use Rattle.tables.specs.declared.table.GroupTable.{Ghosts}
 use Rattle.book.specs.Winners.{Row, Lawful, winners}
 use Rattle.book.specs.Emission.{Outputs}
 use Rattle.book.specs.Calls.{Call, Answer, after}
 use Rattle.book.proofs.Following.{answer_is, winners_after, held_after, reply}
 use Rattle.grouped.specs.declared.FirstLastGroupsAccumulator.{FirstLastGroupsAccumulator}
-use Rattle.grouped.specs.Accumulators.{Shown, flags_of, making, is_set, Shows, Obeys}
+use Rattle.grouped.specs.Accumulators.{making, is_set, Stands, Obeys}
+use Rattle.grouped.specs.Walk.{SameMade}
 
-pub flags_length : {S O : Type 0} {v : Shown S O} {a : FirstLastGroupsAccumulator S O} {ws : List (Option Row)} → Shows v a ws → length (flags_of a.slots) ≡ length ws
-flags_length {ws = ws} h = ap length h.flags ∙ length-map ws is_set
+module _ {S O F G : Type 0} {s : Ghosts S F} {o : Ghosts O G} where
+  pub flags_length : (a : FirstLastGroupsAccumulator S O F G s o) (ws : List (Option Row)) → Stands a ws → length a.slots.set ≡ length ws
+  flags_length a ws h = ap length h.flags ∙ length-map ws is_set
 
-pub obeys_from_held : {S O : Type 0} (v : Shown S O) → ((s : S) → StateLaws (v.state_of s)) → ((o : O) → OrderLaws (v.order_of o))
-    → (a : FirstLastGroupsAccumulator S O) (c : Call) (o : Outputs) (r : Answer) (a' : FirstLastGroupsAccumulator S O)
-    → making v a' ≡ making v a
-    → ((ws : List (Option Row)) → Shows v a ws → (r ≡ reply (making v a) ws c o) × Shows v a' (held_after (making v a) ws c o)) → Obeys v a c o r a'
-obeys_from_held v state-laws order-laws a c o r a' same does =
-    let m = making v a in
-    let laws : Lawful m = record { of_state = state-laws a.state; of_order = order-laws a.order } in
-    record {
-      same_making = same;
-      answers_so = λ b x. (does (winners m b) x).0 ∙ sym (answer_is m laws b c o);
-      keeps_so = λ b x. subst (Shows v a') (sym (winners_after m laws b c o) ∙ ap (λ n. winners n (after m b c o)) (sym same)) (does (winners m b) x).1;
-    }
+  pub lawful : (a : FirstLastGroupsAccumulator S O F G s o) → ((x : S) → StateLaws (state_of (s.settings x))) → ((x : O) → OrderLaws (o.settings x)) → Lawful (making a)
+  lawful a state-laws order-laws = record { of_state = state-laws a.state; of_order = order-laws a.order }
+
+  pub made_same : (a a' : FirstLastGroupsAccumulator S O F G s o) → SameMade a a' → making a' ≡ making a
+  made_same a a' h = λ i. record { state = state_of (h.state i); order = h.order i; first = h.first i; ignore_nulls = h.nulls i }
+
+  pub made_on : (a a' a'' : FirstLastGroupsAccumulator S O F G s o) → SameMade a a' → SameMade a' a'' → SameMade a a''
+  made_on a a' a'' h k = record { state = k.state ∙ h.state; order = k.order ∙ h.order; first = k.first ∙ h.first; nulls = k.nulls ∙ h.nulls }
+
+  pub unchanged : (a : FirstLastGroupsAccumulator S O F G s o) → SameMade a a
+  unchanged a = record { state = refl; order = refl; first = refl; nulls = refl }
+
+  -- a call does to the held winners what the book says
+  pub record Does (a : FirstLastGroupsAccumulator S O F G s o) (ws : List (Option Row)) (c : Call) (before : Outputs) (r : Answer) (a' : FirstLastGroupsAccumulator S O F G s o) : Type 0 where
+    pub replies : r ≡ reply (making a) ws c before
+    pub stands : Stands a' (held_after (making a) ws c before)
+
+  pub obeys_from_held : (a : FirstLastGroupsAccumulator S O F G s o) → Lawful (making a) → (c : Call) (before : Outputs) (r : Answer) (a' : FirstLastGroupsAccumulator S O F G s o)
+      → SameMade a a' → ((ws : List (Option Row)) → Stands a ws → Does a ws c before r a') → Obeys a c before r a'
+  obeys_from_held a laws c before r a' made does =
+      let m = making a in
+      let same = made_same a a' made in
+      record {
+        same_making = same;
+        answers_so = λ b x. (does (winners m b) x).replies ∙ sym (answer_is m laws b c before);
+        keeps_so = λ b x. subst (Stands a') (sym (winners_after m laws b c before) ∙ ap (λ n. winners n (after m b c before)) (sym same)) (does (winners m b) x).stands;
+      }

@@ -1,4 +1,4 @@
-pub mod Checking
+pub mod Placing
 pub mod Passing
 pub mod Walking
 pub mod Replacing

@@ -1,8 +1,9 @@
 -- Seen: the code's calls and results in the words of the book.
---   given_seen, batch_of   the columns and the batch of a call
---   batch_seen, emission_seen   the result of a batch and of an emission
+--   batch_of        the batch of a call
+--   batch_answer, emission_answer   the result of a batch and of an emission
 --   to_seen         how many groups an emission takes
---   values_only     the buffers of a call that writes values alone; no_outputs those of one that writes nothing
+--   values_only     the buffers of a call that writes values alone
+--   no_outputs      the buffers of a call that writes nothing
 use Rattle.std.specs.Prelude.{ℕ, List, [], map, Ok, Err, Result}
 use Rattle.column.specs.Seen.{column_seen}
 use Rattle.column.specs.declared.Column.{Column}
@@ -16,19 +17,16 @@ use Rattle.grouped.specs.declared.EmitTo.{EmitTo}
 use Rattle.grouped.specs.declared.EmitTo.TheVariants.{All, First}
 use Rattle.grouped.specs.declared.notice.ShiftNotice.{ShiftNotice}
 
-abbrev pub given_seen : Column → List Column → ℕ → Batches.Given
-given_seen v os n = record { value = column_seen v; orders = map column_seen os; count = n }
-
 abbrev pub batch_of : Column → List Column → ℕ → List ℕ → ℕ → Batches.Batch
-batch_of v os n ix total = record { columns = given_seen v os n; indices = ix; total = total }
+batch_of v os n ix total = record { columns = record { value = column_seen v; orders = map column_seen os; count = n }; indices = ix; total = total }
 
-abbrev pub batch_seen : {X : Type 0} → Result X Fault → Calls.Result
-batch_seen (Ok x) = Calls.done
-batch_seen (Err f) = Calls.refused (fault_seen f)
+abbrev pub batch_answer : {X : Type 0} → Result X Fault → Calls.Result
+batch_answer (Ok x) = Calls.done
+batch_answer (Err f) = Calls.refused (fault_seen f)
 
-abbrev pub emission_seen : Result ShiftNotice Fault → Calls.Result
-emission_seen (Ok t) = Calls.dropped t.dropped
-emission_seen (Err f) = Calls.refused (fault_seen f)
+abbrev pub emission_answer : Result ShiftNotice Fault → Calls.Result
+emission_answer (Ok t) = Calls.dropped t.dropped
+emission_answer (Err f) = Calls.refused (fault_seen f)
 
 abbrev pub to_seen : EmitTo → Emission.To
 to_seen All = Emission.all

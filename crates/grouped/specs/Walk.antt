@@ -1,110 +1,102 @@
 -- Walk: the row that a batch marks for each group, and what the accumulator holds after it takes these rows.
 --   picks       which verdicts of one key against another say that it beats that
+--   key_of      the key of a row of a batch
 --   ahead       one key beats another
 --   group_rows  the admitted rows of a group among the first n rows of a batch
---   row_of      the row that is marked for a group; pair_of the same with the group's number
+--   row_of      the row that is marked for a group
+--   pair_of     the same with the group's number
+--   found       a marked row as it stands in the batch
+--   step        the marked row after one row more, which counts where it is admitted and of the group
 --   Best        a marked row is the winner among the group's admitted rows so far
---   Table, table   what an accumulator holds: flags, cells and keys, group by group
 --   wins        a new key replaces what a group holds: the group is unset, or the new key beats the held one
 --   put_if      one place of a list set, where a test says so
 --   take_row    one group takes a row of a batch where that replaces what it holds; no other group changes
 --   take_maybe  the same where a row is marked
 --   take_below  the groups below a number take their marked rows
+--   Takes       state and order of an accumulator take a row of a batch
 --   SameMade    nothing of how an accumulator was made has changed
---   in_turn     the answer of two steps, the second only where the first is not declined
---   Grown       the tables before and after growing to a total; GrowsNot one of them declines
-use Rattle.std.specs.Prelude.{◌≡◌, ℕ, zero, suc, ◌-◌, ◌<◌, Bool, true, false, not, ◌&&◌, List, [], ◌∷◌, ◌++◌, map, length, replicate, Some, None, Ok, Err, filter, Option, Result, ◌==◌, ◌≢◌, slice_index, slice_index_or, slice_set, if◌then◌else◌}
+--   grown_table  what an accumulator holds after it grew to a total by unset groups
+use Rattle.std.specs.Prelude.{◌≡◌, ℕ, zero, suc, ◌-◌, ◌<◌, Bool, true, false, not, ◌&&◌, List, [], ◌∷◌, ◌++◌, map, length, replicate, Some, None, filter, Option, ◌==◌, slice_index, slice_index_or, slice_set, if◌then◌else◌}
+use Rattle.std.specs.Option.{option_map}
 use Rattle.std.specs.declared.cmp.Ordering.TheVariants.{Less, Equal, Greater}
 use Rattle.std.specs.declared.cmp.Ordering.{Ordering}
-use Rattle.column.specs.Cells.{Cell, Kind, is_null}
-use Rattle.column.specs.Columns.{Column, Flags, cell_at, count_up}
-use Rattle.tables.specs.Meaning.{Settings}
-use Rattle.tables.specs.Refusals.{key_at, verdict, growing, grown_entries}
+use Rattle.column.specs.Cells.{Cell}
+use Rattle.column.specs.Columns.{Flags, cell_at, count_up}
+use Rattle.tables.specs.Refusals.{key_at, verdict, cell_refused, key_refused, grown_entries}
+use Rattle.tables.specs.declared.table.GroupTable.{Ghosts}
 use Rattle.book.specs.Winners.{Row, Making, winner}
-use Rattle.book.specs.Batches.{Given, row_at, admitted, marked}
+use Rattle.book.specs.Batches.{Given, Batch, order_columns, row_at, admitted}
+use Rattle.grouped.specs.Accumulators.{Table, held, state_settings, order_settings}
 use Rattle.grouped.specs.declared.extremes.Extremes.{Extremes}
+use Rattle.grouped.specs.declared.FirstLastGroupsAccumulator.{FirstLastGroupsAccumulator}
 
 abbrev pub picks : Bool → Ordering → Bool
 picks first Less = first
 picks first Equal = false
 picks first Greater = not first
 
-unfoldable pub ahead : Settings → Bool → List Cell → List Cell → Bool
-ahead s first a b = picks first (verdict s a b)
+abbrev pub key_of : Given → ℕ → List Cell
+key_of g r = key_at (order_columns g) r
 
-abbrev pub group_rows : Making → Given → List ℕ → Option Flags → ℕ → ℕ → List Row
-group_rows m g ix marks k n = map (row_at g) (filter (λ r. (slice_index ix r == k) && admitted m g marks r) (count_up 0 n))
+unfoldable pub ahead : Making → List Cell → List Cell → Bool
+ahead m a b = picks m.first (verdict m.order a b)
+
+abbrev pub group_rows : Making → Batch → Option Flags → ℕ → ℕ → List Row
+group_rows m b marks k n = map (row_at b.columns) (filter (λ r. (slice_index b.indices r == k) && admitted m b.columns marks r) (count_up 0 n))
 
 abbrev pub row_of : Extremes → ℕ → Option ℕ
-row_of e g = if slice_index_or e.marked g false then Some (slice_index e.rows g) else None
+row_of e g = slice_index_or e.rows g None
 
 abbrev pub pair_of : Extremes → ℕ → Option (ℕ × ℕ)
-pair_of e g = if slice_index_or e.marked g false then Some (g, slice_index e.rows g) else None
+pair_of e g = option_map (λ r. (g, r)) (row_of e g)
 
--- a marked row as it stands in the batch
 abbrev pub found : Given → Option ℕ → Option Row
-found g None = None
-found g (Some r) = Some (row_at g r)
+found g o = option_map (row_at g) o
 
--- the marked row after one row more, which counts where it is admitted and of the group
-abbrev pub step : (ℕ → ℕ → Bool) → Bool → Option ℕ → ℕ → Option ℕ
-step beats false b i = b
-step beats true None i = Some i
-step beats true (Some a) i = if beats i a then Some i else Some a
+abbrev pub step : Making → Given → Bool → Option ℕ → ℕ → Option ℕ
+step m g false b r = b
+step m g true None r = Some r
+step m g true (Some a) r = if ahead m (key_of g r) (key_of g a) then Some r else Some a
 
--- row b is ahead of row a
-abbrev pub ahead_row : Settings → Bool → List Column → ℕ → ℕ → Bool
-ahead_row s first cs b a = ahead s first (key_at cs b) (key_at cs a)
+pub record Best (m : Making) (b : Batch) (marks : Option Flags) (k n : ℕ) (o : Option ℕ) : Type 0 where
+  pub wins_so : found b.columns o ≡ winner m (group_rows m b marks k n)
+  pub among : (r : ℕ) → o ≡ Some r → r < n
 
--- the filter and the null policy let the row through
-abbrev pub let_in : Bool → Column → Option Flags → ℕ → Bool
-let_in ignore v marks r = marked marks r && not (ignore && is_null (cell_at v r))
-
-abbrev pub wins : Settings → Bool → Bool → List Cell → List Cell → Bool
-wins s first flag held key = if flag then ahead s first key held else true
+abbrev pub wins : Making → Bool → List Cell → List Cell → Bool
+wins m flag old new = if flag then ahead m new old else true
 
 abbrev pub put_if : {X : Type 0} → Bool → List X → ℕ → X → List X
 put_if b xs g x = if b then slice_set xs g x else xs
 
-pub record Table : Type 0 where
-  pub flags : List Bool
-  pub cells : List (List Cell)
-  pub keys : List (List Cell)
+unfoldable pub take_row : Making → Given → Table → ℕ → ℕ → Table
+take_row m g t k r =
+    let w = wins m (slice_index_or t.flags k false) (slice_index_or t.keys k []) (key_of g r) in
+    record { flags = put_if w t.flags k true; cells = put_if w t.cells k (cell_at g.value r ∷ []); keys = put_if w t.keys k (key_of g r) }
 
-abbrev pub table : List Bool → List (List Cell) → List (List Cell) → Table
-table fs vs ks = record { flags = fs; cells = vs; keys = ks }
+abbrev pub take_maybe : Making → Given → Table → ℕ → Option ℕ → Table
+take_maybe m g t k None = t
+take_maybe m g t k (Some r) = take_row m g t k r
 
-unfoldable pub take_row : Settings → Bool → Column → List Column → Table → ℕ → ℕ → Table
-take_row s first v cs t g r =
-    let w = wins s first (slice_index_or t.flags g false) (slice_index_or t.keys g []) (key_at cs r) in
-    record { flags = put_if w t.flags g true; cells = put_if w t.cells g (cell_at v r ∷ []); keys = put_if w t.keys g (key_at cs r) }
+abbrev pub take_below : Making → Given → Table → (ℕ → Option ℕ) → ℕ → Table
+take_below m g t rows zero = t
+take_below m g t rows (suc k) = take_maybe m g (take_below m g t rows k) k (rows k)
 
-abbrev pub take_maybe : Settings → Bool → Column → List Column → Table → ℕ → Option ℕ → Table
-take_maybe s first v cs t g None = t
-take_maybe s first v cs t g (Some r) = take_row s first v cs t g r
+module _ {S O F G : Type 0} {s : Ghosts S F} {o : Ghosts O G} where
+  pub record Takes (a : FirstLastGroupsAccumulator S O F G s o) (g : Given) (r : ℕ) : Type 0 where
+    pub cell : cell_refused (state_settings a) false g.value r ≡ None
+    pub key : key_refused (order_settings a) false (order_columns g) g.count (r ∷ []) ≡ None
 
-abbrev pub take_below : Settings → Bool → Column → List Column → Table → (ℕ → Option ℕ) → ℕ → Table
-take_below s first v cs t rows zero = t
-take_below s first v cs t rows (suc g) = take_maybe s first v cs (take_below s first v cs t rows g) g (rows g)
+  pub record SameMade (a a' : FirstLastGroupsAccumulator S O F G s o) : Type 0 where
+    pub state : state_settings a' ≡ state_settings a
+    pub order : order_settings a' ≡ order_settings a
+    pub first : a'.pick_first_in_group ≡ a.pick_first_in_group
+    pub nulls : a'.ignore_nulls ≡ a.ignore_nulls
 
-pub record SameMade (s s' o o' : Settings) (l l' i i' : Bool) : Type 0 where
-  pub state : s' ≡ s
-  pub order : o' ≡ o
-  pub first : l' ≡ l
-  pub nulls : i' ≡ i
-
-pub record Best (m : Making) (g : Given) (ix : List ℕ) (marks : Option Flags) (k n : ℕ) (o : Option ℕ) : Type 0 where
-  pub wins_so : found g o ≡ winner m (group_rows m g ix marks k n)
-  pub among : (r : ℕ) → o ≡ Some r → r < n
-
-abbrev pub in_turn : {X E : Type 0} → Result X E → Result X E → Result X E
-in_turn (Ok x) r = r
-in_turn (Err e) r = Err e
-
-pub record Grown (sk ok : List Kind) (total : ℕ) (t u : Table) : Type 0 where
-  pub state_grows : growing (length t.cells) total ≡ None
-  pub order_grows : growing (length t.keys) total ≡ None
-  pub grows_so : u ≡ table (t.flags ++ replicate (total - length t.flags) false) (grown_entries sk t.cells total) (grown_entries ok t.keys total)
-
-abbrev pub GrowsNot : ℕ → Table → Type 0
-GrowsNot total t = growing (length t.cells) total ≡ None → growing (length t.keys) total ≢ None
+  abbrev pub grown_table : FirstLastGroupsAccumulator S O F G s o → ℕ → Table
+  grown_table a total =
+      let t = held a in
+      record {
+        flags = t.flags ++ replicate (total - length t.flags) false;
+        cells = grown_entries (state_settings a).kinds t.cells total;
+        keys = grown_entries (order_settings a).kinds t.keys total;
+      }

@@ -2,47 +2,45 @@
 ghost use Rattle.std.specs.Prelude.{◌≡◌};
 ghost use Rattle.column.specs.Seen.{marks_seen};
 ghost use Rattle.book.specs.Calls.{update};
-ghost use Rattle.grouped.specs.Accumulators.{shown, Obeys};
-ghost use Rattle.grouped.specs.Seen.{batch_of, batch_seen, no_outputs};
+ghost use Rattle.grouped.specs.Accumulators.{Obeys};
+ghost use Rattle.grouped.specs.Seen.{batch_of, batch_answer, no_outputs};
 
 use crate::FirstLastGroupsAccumulator;
+use checks::{Batch, Given, check_batch};
 use column::{BoolColumn, Column};
 use faults::Fault;
 use tables::{RowOrder, ValueState};
 
 impl<S: ValueState, O: RowOrder> FirstLastGroupsAccumulator<S, O> {
     // Takes a batch in: each group's winner among the batch's admitted rows replaces what the group holds if that is unset or beaten.
-    pub fn update_batch(
+    // By a rule of the project the columns come one by one, the order columns as an array of three and a count.
+    pub fn update_batch<'a>(
         &mut self,
-        values: Column,
-        orderings: [Column; 3],
+        values: Column<'a>,
+        orderings: [Column<'a>; 3],
         count: usize,
-        group_indices: &[usize],
-        opt_filter: Option<BoolColumn>,
+        group_indices: &'a [usize],
+        opt_filter: Option<BoolColumn<'a>>,
         total_num_groups: usize,
     ) -> Result<(), Fault>
-        ensures { Obeys (shown S.GroupTable.entries S.GroupTable.settings O.GroupTable.entries O.GroupTable.settings)
-            self.old
+        ensures { Obeys self.old
             (update (batch_of values.entry orderings.entry count group_indices.now total_num_groups) (marks_seen opt_filter.entry))
-            no_outputs (record { result = batch_seen result; outputs = no_outputs })
+            no_outputs (record { result = batch_answer result; outputs = no_outputs })
             self.new }
     {
-        self.check_batch(
-            values,
-            orderings,
-            count,
-            group_indices,
-            opt_filter,
-            total_num_groups,
-        )?;
-        self.grow(total_num_groups)?;
-        let best = self.get_filtered_extreme_of_each_group(
-            &values,
-            orderings,
-            count,
-            group_indices,
-            opt_filter,
-        )?;
-        self.take_winners(&best, &values, orderings, count, total_num_groups)
+        let batch = Batch {
+            columns: Given {
+                value: values,
+                orders: orderings,
+                count,
+            },
+            filter: opt_filter,
+            indices: group_indices,
+            total: total_num_groups,
+        };
+        check_batch(&self.state, &self.order, self.slots.len(), &batch)?;
+        self.grow(batch.total)?;
+        let best = self.get_filtered_extreme_of_each_group(&batch)?;
+        self.take_winners(&best, &batch.columns, batch.total)
     }
 }

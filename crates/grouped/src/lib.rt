@@ -1,28 +1,32 @@
 // FIRST and LAST values of groups, generic over the value state and the row order.
 #![tactic(auto)]
 
+ghost use Rattle.std.specs.Prelude.{◌≡◌, length};
+
 mod batches;
-mod checks;
 mod emission;
 mod extremes;
 mod making;
 mod notice;
 mod slots;
-mod slotting;
 mod taking;
 mod walk;
 
-pub use notice::ShiftNotice;
+pub use notice::{FINISHED, ShiftNotice};
 use slots::SlotTable;
+use tables::GroupTable;
 
-// The first or last value of each group by ordering keys.
+// The first or last value of each group by ordering keys. State, order and slots hold the same groups.
+// By a rule of the project it holds the three by value beside one another, and says by the original's two flags how it was made.
 #[derive(Drop)]
-pub struct FirstLastGroupsAccumulator<S, O> {
+pub struct FirstLastGroupsAccumulator<S: GroupTable, O: GroupTable> {
     state: S,
     order: O,
     slots: SlotTable,
     pick_first_in_group: bool,
     ignore_nulls: bool,
+    ghost valued: { length (S.GroupTable.entries state) ≡ length slots.set },
+    ghost keyed: { length (O.GroupTable.entries order) ≡ length slots.set },
 }
 
 // How many groups an emission takes.

@@ -1,10 +1,10 @@
 // Making a grouped accumulator.
 ghost use Rattle.std.specs.Prelude.{◌≡◌, []};
 ghost use Rattle.tables.specs.Meaning.{state_of};
-ghost use Rattle.grouped.specs.Accumulators.{shown, made_of, Shows};
+ghost use Rattle.grouped.specs.Accumulators.{making, Stands};
 
 use crate::FirstLastGroupsAccumulator;
-use crate::slotting::no_slots;
+use crate::slots::SlotTable;
 use tables::{GroupTable, RowOrder, ValueState};
 
 // A group table with its groups dropped.
@@ -22,13 +22,13 @@ where
 impl<S: ValueState, O: RowOrder> FirstLastGroupsAccumulator<S, O> {
     // An accumulator of no group; the state and the order are emptied. FIRST where `pick_first_in_group`, else LAST.
     pub fn new(state: S, order: O, pick_first_in_group: bool, ignore_nulls: bool) -> Self
-        ensures empty { Shows (shown S.GroupTable.entries S.GroupTable.settings O.GroupTable.entries O.GroupTable.settings) result [] }
-        ensures making { made_of S.GroupTable.settings O.GroupTable.settings result ≡ record { state = state_of (S.GroupTable.settings state); order = O.GroupTable.settings order; first = pick_first_in_group; ignore_nulls = ignore_nulls } }
+        ensures empty { Stands result [] }
+        ensures making { making result ≡ record { state = state_of (S.GroupTable.settings state); order = O.GroupTable.settings order; first = pick_first_in_group; ignore_nulls = ignore_nulls } }
     {
         FirstLastGroupsAccumulator {
             state: emptied(state),
             order: emptied(order),
-            slots: no_slots(),
+            slots: SlotTable::new(),
             pick_first_in_group,
             ignore_nulls,
         }

@@ -2,7 +2,13 @@
 ghost use Rattle.std.specs.Prelude.{◌≡◌, ◌≤◌, map};
 ghost use Rattle.grouped.specs.Notices.{renumbered, spent};
 
-// How many groups an emission dropped; 4294967295 once the notice is spent.
+// The number of a group that has left: by a rule of the project a number in the list of open ones, and no Option.
+pub const FINISHED: u32 = u32::MAX;
+
+// The number in a notice that is spent: by a rule of the project a notice is one number, and no Option.
+const SPENT: u32 = u32::MAX;
+
+// How many groups an emission dropped; 4,294,967,295 once the notice is spent: by a rule of the project a notice is one number alone.
 pub struct ShiftNotice {
     dropped: u32,
 }
@@ -20,8 +26,8 @@ impl Drop for ShiftNotice {
 fn renumber_one(group: u32, dropped: u32) -> u32
     ensures { result ≡ renumbered dropped group }
 {
-    if group == 4294967295 || group < dropped {
-        4294967295
+    if group == FINISHED || group < dropped {
+        FINISHED
     } else {
         group - dropped
     }
@@ -46,7 +52,7 @@ impl ShiftNotice {
         for group in open.iter_mut() {
             *group = renumber_one(*group, dropped);
         }
-        self.dropped = 4294967295;
+        self.dropped = SPENT;
         dropped
     }
 }

@@ -1,19 +1,30 @@
 // The walk over a batch: the earliest admitted row of each group that no other of them beats.
-ghost use Rattle.std.specs.Prelude.{◌≡◌, ℕ, ◌<◌, true, false, ◌&&◌, [], ◌∷◌, length, Some, None, Ok, MatchResult, ◌==◌, ◌≢◌, slice_index};
-ghost use Rattle.column.specs.Seen.{column_seen, columns_seen, marks_seen};
-ghost use Rattle.tables.specs.Refusals.{key_refused};
-ghost use Rattle.grouped.specs.Accumulators.{made_of};
-ghost use Rattle.grouped.specs.Seen.{given_seen};
-ghost use Rattle.grouped.specs.Walk.{picks, ahead_row, row_of, step, let_in, Best};
+ghost use Rattle.std.specs.Prelude.{◌≡◌, ℕ, ◌<◌, true, ◌&&◌, length, Some, Ok, MatchResult, ◌==◌, ◌≢◌, slice_index};
+ghost use Rattle.column.specs.Seen.{marks_seen};
+ghost use Rattle.book.specs.Batches.{marked, admitted};
+ghost use Rattle.checks.specs.Seen.{given_seen, batch_seen};
+ghost use Rattle.grouped.specs.Accumulators.{making};
+ghost use Rattle.grouped.specs.Walk.{picks, ahead, key_of, row_of, step, Takes, Best};
 
 use crate::FirstLastGroupsAccumulator;
-use crate::checks::passes;
 use crate::extremes::Extremes;
-use column::{BoolColumn, Column};
-use faults::{Fault, order_at};
+use checks::{Batch, Given};
+use column::BoolColumn;
+use faults::{Fault, Place, located};
 use std::cmp::Ordering;
 use tables::{RowOrder, ValueState};
 
+// Whether the filter, if there is one, lets row `r` through: by a rule of the project it is taken apart here, where a row is admitted.
+fn passes(filter: Option<BoolColumn>, r: usize) -> bool
+    ensures { result ≡ marked (marks_seen filter.entry) r }
+{
+    match filter {
+        None => true,
+        Some(flags) => flags.is_true(r),
+    }
+}
+
+// That state and order take a row of a batch is a fact of an accumulator and a batch together, so no type of either can hold it: clauses ask it by `Takes`. That a group is below 256 is a fact of a number, which only the batch's checks know.
 impl<S: ValueState, O: RowOrder> FirstLastGroupsAccumulator<S, O> {
     // Whether a key with this verdict against another beats it.
     pub(crate) fn better(&self, verdict: Ordering) -> bool
@@ -27,17 +38,13 @@ impl<S: ValueState, O: RowOrder> FirstLastGroupsAccumulator<S, O> {
     }
 
     // Whether row `b` beats row `a`.
-    fn beats_row(
-        &self,
-        columns: [Column; 3],
-        count: usize,
-        b: usize,
-        a: usize,
-    ) -> Result<bool, Fault>
-        requires { key_refused (O.GroupTable.settings self.now.order) false (columns_seen columns count) count (b ∷ (a ∷ [])) ≡ None }
-        ensures { result ≡ Ok (ahead_row (O.GroupTable.settings self.now.order) self.now.pick_first_in_group (columns_seen columns.entry count) b a) }
+    fn beats_row(&self, given: &Given, b: usize, a: usize) -> Result<bool, Fault>
+        requires new { Takes self.now (given_seen given.now) b }
+        requires old { Takes self.now (given_seen given.now) a }
+        ensures { result ≡ Ok (ahead (making self.now) (key_of (given_seen given.now) b) (key_of (given_seen given.now) a)) }
     {
-        let verdict = order_at(self.order.compare_rows(columns, count, b, a), 9, 0)?;
+        let verdict = self.order.compare_rows(given.orders, given.count, b, a);
+        let verdict = located(verdict, Place::Call, 0)?;
         Ok(self.better(verdict))
     }
 
@@ -45,51 +52,50 @@ impl<S: ValueState, O: RowOrder> FirstLastGroupsAccumulator<S, O> {
     fn offer(
         &self,
         best: &mut Extremes,
-        columns: [Column; 3],
-        count: usize,
+        given: &Given,
         group: usize,
         row: usize,
     ) -> Result<(), Fault>
-        requires taken { (a : ℕ) → row_of best.old group ≡ Some a → key_refused (O.GroupTable.settings self.now.order) false (columns_seen columns count) count (row ∷ (a ∷ [])) ≡ None }
+        requires taken { Takes self.now (given_seen given.now) row }
+        requires marked { (a : ℕ) → row_of best.old group ≡ Some a → Takes self.now (given_seen given.now) a }
         requires few { group < 256 }
         ensures fine { result ≡ Ok tt }
-        ensures here { row_of best.new group ≡ step (ahead_row (O.GroupTable.settings self.now.order) self.now.pick_first_in_group (columns_seen columns.entry count)) true (row_of best.old group) row }
+        ensures here { row_of best.new group ≡ step (making self.now) (given_seen given.now) true (row_of best.old group) row }
         ensures other { (k : ℕ) → (k ≢ group) → row_of best.new k ≡ row_of best.old k }
     {
-        if !best.marked[group] {
-            best.marked[group] = true;
-            best.rows[group] = row;
-        } else if self.beats_row(columns, count, row, best.rows[group])? {
-            best.rows[group] = row;
+        let is_best = match best.row(group) {
+            None => true,
+            Some(other) => self.beats_row(given, row, other)?,
+        };
+        if is_best {
+            best.mark(group, row);
         }
         Ok(())
     }
 
-    // Whether a row is admitted.
-    fn admits(&self, value: &Column, filter: Option<BoolColumn>, row: usize) -> bool
-        ensures { result ≡ let_in self.now.ignore_nulls (column_seen value.now) (marks_seen filter.entry) row }
+    // Whether a row of the batch is admitted.
+    fn admits(&self, batch: &Batch, row: usize) -> bool
+        ensures { result ≡ admitted (making self.now) (batch_seen batch.now).columns (marks_seen batch.now.filter) row }
     {
-        passes(filter, row) && !(self.ignore_nulls && value.is_null(row))
+        passes(batch.filter, row) && !(self.ignore_nulls && batch.columns.value.is_null(row))
     }
 
     // Offers a row to its group if it is admitted.
     fn visit(
         &self,
         best: &mut Extremes,
-        value: &Column,
-        columns: [Column; 3],
-        count: usize,
-        filter: Option<BoolColumn>,
+        batch: &Batch,
         group: usize,
         row: usize,
     ) -> Result<(), Fault>
-        requires taken { (a : ℕ) → row_of best.old group ≡ Some a → key_refused (O.GroupTable.settings self.now.order) false (columns_seen columns count) count (row ∷ (a ∷ [])) ≡ None }
+        requires taken { Takes self.now (batch_seen batch.now).columns row }
+        requires marked { (a : ℕ) → row_of best.old group ≡ Some a → Takes self.now (batch_seen batch.now).columns a }
         requires few { group < 256 }
         ensures fine { result ≡ Ok tt }
-        ensures each { (k : ℕ) → row_of best.new k ≡ step (ahead_row (O.GroupTable.settings self.now.order) self.now.pick_first_in_group (columns_seen columns.entry count)) (group == k && let_in self.now.ignore_nulls (column_seen value.now) (marks_seen filter.entry) row) (row_of best.old k) row }
+        ensures each { (k : ℕ) → row_of best.new k ≡ step (making self.now) (batch_seen batch.now).columns (group == k && admitted (making self.now) (batch_seen batch.now).columns (marks_seen batch.now.filter) row) (row_of best.old k) row }
     {
-        if self.admits(value, filter, row) {
-            self.offer(best, columns, count, group, row)?;
+        if self.admits(batch, row) {
+            self.offer(best, &batch.columns, group, row)?;
         }
         Ok(())
     }
@@ -97,19 +103,15 @@ impl<S: ValueState, O: RowOrder> FirstLastGroupsAccumulator<S, O> {
     // The earliest admitted row of each group that no other of them beats.
     pub(crate) fn get_filtered_extreme_of_each_group(
         &self,
-        value: &Column,
-        columns: [Column; 3],
-        count: usize,
-        indices: &[usize],
-        filter: Option<BoolColumn>,
+        batch: &Batch,
     ) -> Result<Extremes, Fault>
-        requires taken { (r : ℕ) → r < length indices.now → key_refused (O.GroupTable.settings self.now.order) false (columns_seen columns count) count (r ∷ []) ≡ None }
-        requires within { (k : ℕ) → k < length indices.now → slice_index indices.now k < 256 }
-        ensures { MatchResult result (λ e. (k : ℕ) → Best (made_of S.GroupTable.settings O.GroupTable.settings self.now) (given_seen value.now columns.entry count) indices.now (marks_seen filter.entry) k (length indices.now) (row_of e k)) (λ _. ⊥) }
+        requires taken { (r : ℕ) → r < length batch.now.indices.now → Takes self.now (batch_seen batch.now).columns r }
+        requires within { (k : ℕ) → k < length batch.now.indices.now → slice_index batch.now.indices.now k < 256 }
+        ensures { MatchResult result (λ e. (k : ℕ) → Best (making self.now) (batch_seen batch.now) (marks_seen batch.now.filter) k (length batch.now.indices.now) (row_of e k)) (λ _. ⊥) }
     {
         let mut best = Extremes::none();
-        for (row, group) in indices.iter().enumerate() {
-            self.visit(&mut best, value, columns, count, filter, *group, row)?;
+        for (row, group) in batch.indices.iter().enumerate() {
+            self.visit(&mut best, batch, *group, row)?;
         }
         Ok(best)
     }

@@ -4,7 +4,7 @@
 ghost use Rattle.std.specs.Prelude.{◌≡◌, map, MatchResult};
 ghost use Rattle.layout.specs.Written.{parts_seen};
 ghost use Rattle.book.specs.Calls.{evaluate};
-ghost use Rattle.grouped.specs.Accumulators.{shown, Obeys};
+ghost use Rattle.grouped.specs.Accumulators.{Obeys};
 ghost use Rattle.grouped.specs.Notices.{renumbered};
 ghost use Rattle.grouped.specs.Seen.{to_seen, values_only};
 ghost use Rattle.midnight.specs.Days.{day_seen};
@@ -21,8 +21,7 @@ pub fn close_day<S: ValueState, O: RowOrder>(
     out: &mut Output,
     open: &mut [u32],
 ) -> Result<u32, Fault>
-    ensures obeys { Obeys (shown S.GroupTable.entries S.GroupTable.settings O.GroupTable.entries O.GroupTable.settings)
-        stage.old
+    ensures obeys { Obeys stage.old
         (evaluate (to_seen leaving))
         (values_only (parts_seen out.old))
         (record { result = day_seen result; outputs = values_only (parts_seen out.new) })

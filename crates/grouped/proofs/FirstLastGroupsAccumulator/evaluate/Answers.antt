@@ -1,68 +1,64 @@
 use Rattle.std.proofs.Common.{◌≤◌, length, refl, ap, ◌∙◌, arith}
 use Rattle.layout.specs.Written.{parts_seen}
 use Rattle.tables.proofs.Declining.{drop_fine}
-use Rattle.tables.specs.Meaning.{state_of}
 use Rattle.book.specs.Calls.{dropped, refused}
-use Rattle.grouped.proofs.Evaluating.{cells_long, dropped_not, dropped_on, emission_refused, eval_done, eval_fewer, eval_short, keys_many, none_unspent, remade, taking, took_not, took_on, values_many}
-use Rattle.grouped.proofs.Holding.{obeys_from_held}
+use Rattle.book.specs.Emission.{emits}
+use Rattle.faults.proofs.Whole.{placed_own, placed_whole}
+use Rattle.faults.specs.declared.Refusal.TheVariants.{State}
+use Rattle.grouped.proofs.Evaluating.{emission_refused, enough_are, eval_done, eval_fewer, eval_short, fewer_are, taking, took_not, took_on}
+use Rattle.grouped.proofs.Holding.{lawful, obeys_from_held, unchanged}
 use Rattle.grouped.proofs.Replacing.{done_so}
-use Rattle.faults.specs.Reported.{fault_seen}
+use Rattle.grouped.specs.Accumulators.{state_settings}
 use Rattle.grouped.specs.Seen.{to_seen}
 use Rattle.grouped.proofs.FirstLastGroupsAccumulator.evaluate.Goals as goal
 
-pub returns-then-n-self : goal.returns-then-n-self
-returns-then-n-self g c = record {
-  obeys = obeys_from_held _ g.met.S.ValueState.lawful g.met.O.RowOrder.lawful c.args.self.now _ _ _ _ refl
-      (λ ws h. eval_fewer _ c.args.self.now _ c.emitted-n.result c.emitted-n.ensures ws h _ _ (ap (λ f. refused (fault_seen f)) c.own.ensures) c.if-n-self.true);
-  unspent = tt;
-}
-
-pub returns-in_err-state_at : goal.returns-in_err-state_at
-returns-in_err-state_at g c =
+pub returns-in_err-located-clause-obeys : goal.returns-in_err-located-clause-obeys
+returns-in_err-located-clause-obeys g c =
     let a = c.args.self.now in
-    let n = c.emitted-n.result in
-    let s = g.S.GroupTable.settings a.state in
+    let n = c.count-n.result in
+    let fewer = fewer_are c.len-held.result n _ _ c.check_drop.ensures (placed_own _ _ _ _ c.in_err-located.ensures) in
+    obeys_from_held a (lawful a g.met.S.ValueState.lawful g.met.O.RowOrder.lawful) _ _ _ _ (unchanged a)
+    (λ ws h. eval_fewer a (to_seen c.args.emit_to) n (c.count-n.ensures ∙ ap (emits (to_seen c.args.emit_to)) c.len-held.ensures) ws h _ _
+    (emission_refused _ _ c.from_residual.ensures.1 ∙ ap refused fewer.1) (omega (arith, c.len-held.ensures, fewer.0)))
+
+pub returns-in_err-located-2-clause-obeys : goal.returns-in_err-located-2-clause-obeys
+returns-in_err-located-2-clause-obeys g c =
+    let a = c.args.self.now in
+    let n = c.count-n.result in
     let es = g.S.GroupTable.entries a.state in
-    record {
-      obeys = obeys_from_held _ g.met.S.ValueState.lawful g.met.O.RowOrder.lawful a _ _ _ _ (remade _ _ (ap state_of c.take.ensures.kept) refl)
-          (λ ws h.
-          let many : n ≤ length es = omega (arith, cells_long es, values_many _ a (to_seen c.args.emit_to) n c.emitted-n.ensures ws h, c.if-n-self.false) in
-          let short = took_not s es n (parts_seen c.args.out.now) _ _ many c.take.ensures.answer c.in_err-state_at.ensures in
-          eval_short _ a _ n c.emitted-n.ensures ws h c.take.new.self (ap state_of c.take.ensures.kept) _ _ _
-          (taking s es (g.S.GroupTable.entries c.take.new.self) n (parts_seen c.args.out.now) _ many c.take.ensures.output c.take.ensures.after) c.if-n-self.false
-          short.0 _ (emission_refused _ _ c.from_residual.ensures.1 ∙ ap refused short.1));
-      unspent = none_unspent _ _ c.from_residual.ensures.1;
-    }
+    let within : n ≤ length a.slots.set = omega (arith, c.len-held.ensures, (enough_are c.len-held.result c.count-n.result _ _ c.check_drop.ensures (placed_own _ _ _ _ c.in_ok-located.ensures))) in
+    let many : n ≤ length es = omega (arith, a.valued, within) in
+    let short = took_not (state_settings a) es n (parts_seen c.args.out.now) _ _ many c.take.ensures.answer (placed_whole State _ _ _ _ c.in_err-located-2.ensures) in
+    obeys_from_held a (lawful a g.met.S.ValueState.lawful g.met.O.RowOrder.lawful) _ _ _ _ (record { state = c.take.ensures.kept; order = refl; first = refl; nulls = refl })
+    (λ ws h. eval_short a (to_seen c.args.emit_to) n (c.count-n.ensures ∙ ap (emits (to_seen c.args.emit_to)) c.len-held.ensures) ws h _ refl _ _ _
+    (taking (state_settings a) es (g.S.GroupTable.entries c.take.new.self) n (parts_seen c.args.out.now) _ many c.take.ensures.output c.take.ensures.after) within refl refl
+    short.0 _ (emission_refused _ _ c.from_residual-in_err-located-2.ensures.1 ∙ ap refused short.1))
 
-pub returns-in_err-order_at : goal.returns-in_err-order_at
-returns-in_err-order_at g c =
-    let a = c.args.self.now in
-    let n = c.emitted-n.result in
-    record {
-      obeys = obeys_from_held _ g.met.S.ValueState.lawful g.met.O.RowOrder.lawful a _ _ _ _ (remade _ _ (ap state_of c.take.ensures.kept) c.drop_first.ensures.kept)
-          (λ ws h. absurd (dropped_not _ _ _ _ 9 0 c.drop_first.ensures.answer c.in_err-order_at.ensures
-          (drop_fine (length (g.O.GroupTable.entries a.order)) n (omega (arith, keys_many _ a (to_seen c.args.emit_to) n c.emitted-n.ensures ws h, c.if-n-self.false)))));
-      unspent = none_unspent _ _ c.from_residual-in_err-order_at.ensures.1;
-    }
+pub drop_first-requires-2 : goal.drop_first-requires-2
+drop_first-requires-2 g c =
+    let enough = enough_are c.len-held.result c.count-n.result _ _ c.check_drop.ensures (placed_own _ _ _ _ c.in_ok-located.ensures) in
+    omega (arith, enough, c.len-held.ensures)
 
 pub overflow_cast-n : goal.overflow_cast-n
-overflow_cast-n g c = record { fits = omega (arith, c.if-n-self.false, c.args.self.now.slots.small) }
+overflow_cast-n g c =
+    let enough = enough_are c.len-held.result c.count-n.result _ _ c.check_drop.ensures (placed_own _ _ _ _ c.in_ok-located.ensures) in
+    record { fits = omega (arith, enough, c.len-held.ensures, c.args.self.now.slots.few) }
 
-pub returns : goal.returns
-returns g c =
+pub returns-clause-unspent : goal.returns-clause-unspent
+returns-clause-unspent g c =
+    let enough = enough_are c.len-held.result c.count-n.result _ _ c.check_drop.ensures (placed_own _ _ _ _ c.in_ok-located.ensures) in
+    omega (arith, c.of.ensures, enough, c.len-held.ensures, c.args.self.now.slots.few)
+
+pub returns-clause-obeys : goal.returns-clause-obeys
+returns-clause-obeys g c =
     let a = c.args.self.now in
-    let n = c.emitted-n.result in
-    let s = g.S.GroupTable.settings a.state in
+    let n = c.count-n.result in
     let es = g.S.GroupTable.entries a.state in
-    record {
-      obeys = obeys_from_held _ g.met.S.ValueState.lawful g.met.O.RowOrder.lawful a _ _ _ _ (remade _ _ (ap state_of c.take.ensures.kept) c.drop_first.ensures.kept)
-          (λ ws h.
-          let many : n ≤ length es = omega (arith, cells_long es, values_many _ a (to_seen c.args.emit_to) n c.emitted-n.ensures ws h, c.if-n-self.false) in
-          eval_done _ a _ n c.emitted-n.ensures ws h c.take.new.self (ap state_of c.take.ensures.kept) _ _ _
-          (taking s es (g.S.GroupTable.entries c.take.new.self) n (parts_seen c.args.out.now) _ many c.take.ensures.output c.take.ensures.after) c.if-n-self.false
-          c.drop_first.new.self c.drop_first.ensures.kept
-          (done_so _ _ _ _ c.drop_first.ensures.after (dropped_on _ _ _ _ 9 0 c.drop_first.ensures.answer c.in_ok-order_at.ensures))
-          c.drop_first-2.new.self c.drop_first-2.ensures
-          (took_on s es n (parts_seen c.args.out.now) _ _ many c.take.ensures.answer c.in_ok-state_at.ensures) _ (ap dropped c.of.ensures));
-      unspent = omega (arith, c.of.ensures, c.if-n-self.false, a.slots.small);
-    }
+    let within : n ≤ length a.slots.set = omega (arith, c.len-held.ensures, (enough_are c.len-held.result c.count-n.result _ _ c.check_drop.ensures (placed_own _ _ _ _ c.in_ok-located.ensures))) in
+    let many : n ≤ length es = omega (arith, a.valued, within) in
+    obeys_from_held a (lawful a g.met.S.ValueState.lawful g.met.O.RowOrder.lawful) _ _ _ _ (record { state = c.take.ensures.kept; order = c.drop_first.ensures.kept; first = refl; nulls = refl })
+    (λ ws h. eval_done a (to_seen c.args.emit_to) n (c.count-n.ensures ∙ ap (emits (to_seen c.args.emit_to)) c.len-held.ensures) ws h _ c.drop_first.ensures.kept _ _ _
+    (taking (state_settings a) es (g.S.GroupTable.entries c.take.new.self) n (parts_seen c.args.out.now) _ many c.take.ensures.output c.take.ensures.after) within
+    c.drop_first-2.ensures
+    (done_so _ _ _ _ c.drop_first.ensures.after (drop_fine (length (g.O.GroupTable.entries a.order)) n (omega (arith, a.keyed, within))))
+    (took_on (state_settings a) es n (parts_seen c.args.out.now) _ _ many c.take.ensures.answer (placed_whole State _ _ _ _ c.in_ok-located-2.ensures)) _ (ap dropped c.of.ensures))

@@ -1,6 +1,6 @@
-use Rattle.std.proofs.Common.{◌<◌, ◌++◌, map, length, get_or, set, refl, ap, ◌∙◌, ap₂, append-nil, arith}
+use Rattle.std.proofs.Common.{◌<◌, length, get_or, set, ap, ◌∙◌, arith}
 use Rattle.std.proofs.lemmas.List.Edits.{map_over_more}
-use Rattle.std.proofs.lemmas.List.{drop_all, get_or_default, take_all}
+use Rattle.std.proofs.lemmas.List.{get_or_default}
 use Rattle.grouped.specs.Notices.{renumbered}
 use Rattle.grouped.proofs.notice.ShiftNotice.renumber.Goals as goal
 
@@ -11,13 +11,3 @@ loop-group-preserved c =
     let i = c.loop-group.group-index in
     let lt : i < length ys = omega arith in
     ap (set ys i) c.renumber_one.ensures ∙ map_over_more f c.args.«open».now ys i (get_or ys i 0) (omega arith) c.loop-group.invariant (get_or_default ys i 0 _ lt)
-
-pub returns : goal.returns
-returns c =
-    let xs = c.args.«open».now in
-    let i = c.loop-group.group-index in
-    record {
-      answer = refl;
-      spends = refl;
-      after = c.loop-group.invariant ∙ ap₂ (λ a b. map (renumbered c.args.self.now.dropped) a ++ b) (take_all i xs (omega arith)) (drop_all i xs (omega arith)) ∙ append-nil _;
-    }

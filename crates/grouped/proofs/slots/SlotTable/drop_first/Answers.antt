@@ -1,4 +1,6 @@
+use Rattle.tables.proofs.Declining.{drop_fine}
+use Rattle.grouped.proofs.Replacing.{done_so}
 use Rattle.grouped.proofs.slots.SlotTable.drop_first.Goals as goal
 
 pub returns : goal.returns
-returns c = c.drop_front.ensures
+returns c = done_so _ _ _ _ c.drop_first.ensures.after (drop_fine _ c.args.n c.requires)

@@ -1,0 +1,11 @@
+use Rattle.std.proofs.Common.{arith}
+use Rattle.book.specs.Batches.{admitted}
+use Rattle.grouped.proofs.FirstLastGroupsAccumulator.admits.Goals as goal
+
+pub returns-after-self : goal.returns-after-self
+unfolding admitted
+returns-after-self g c = grind arith
+
+pub returns-else-passes : goal.returns-else-passes
+unfolding admitted
+returns-else-passes g c = grind arith
