@@ -23,7 +23,7 @@ mod tests {
         };
         FirstLastGroupsAccumulator::new(
             NumberValueState::new(),
-            NumberOrder::new([up, up, up], 1),
+            NumberOrder::new([up; 3], 1),
             false,
             false,
         )
@@ -40,43 +40,33 @@ mod tests {
         }
     }
 
-    fn thrice<'a>(key: Column<'a>) -> [Column<'a>; 3] {
-        [key, key, key]
-    }
-
-    // A filter that is not there.
-    fn no_filter<'a>(_like: &'a [u8]) -> Option<BoolColumn<'a>> {
-        None
-    }
-
-    // Grows the groups of a stage by a batch without rows: 0, or the refusal's number.
-    fn grow(stage: &mut Stage, count: usize, total: usize) -> u8 {
+    // Grows the groups of a stage by a batch without rows, or answers the refusal's number.
+    fn grow(stage: &mut Stage, count: usize, total: usize) -> Result<(), u8> {
         let none = zeros(0, &[]);
-        match stage.update_batch(none, thrice(none), count, &[], no_filter(&[]), total) {
-            Ok(()) => 0,
-            Err(fault) => fault.number(),
-        }
+        stage
+            .update_batch(none, [none; 3], count, &[], None, total)
+            .map_err(|fault| fault.number())
     }
 
-    // Writes the first groups to two buffers and drops them: how many left, or 1000 and the refusal's number.
-    fn leave_into(stage: &mut Stage, n: usize, validity: &mut [u8], data: &mut [u8]) -> u32 {
-        let mut offsets: [u32; 0] = [];
-        let mut open: [u32; 0] = [];
+    // Writes the first groups to two buffers and drops them: how many left, or the refusal's number.
+    fn leave_into(
+        stage: &mut Stage,
+        n: usize,
+        validity: &mut [u8],
+        data: &mut [u8],
+    ) -> Result<u32, u8> {
         let mut out = Output {
             validity,
-            offsets: &mut offsets,
+            offsets: &mut [],
             data,
         };
-        match close_day(stage, EmitTo::First(n), &mut out, &mut open) {
-            Ok(dropped) => dropped,
-            Err(fault) => 1000 + fault.number() as u32,
-        }
+        close_day(stage, EmitTo::First(n), &mut out, &mut []).map_err(|fault| fault.number())
     }
 
     // What an emission into new buffers of these lengths answers, and the buffers after it; each byte was 255.
     #[derive(Drop)]
     struct Left {
-        answer: u32,
+        answer: Result<u32, u8>,
         validity: Vec<u8>,
         data: Vec<u8>,
     }
@@ -100,29 +90,19 @@ mod tests {
 
     // Whether all of some bytes are the same.
     fn all(bytes: &[u8], byte: u8) -> bool {
-        let mut same = true;
-        for b in bytes {
-            same = same && *b == byte;
-        }
-        same
+        bytes.iter().all(|b| *b == byte)
     }
 
     // Whether so many zero numbers make a column.
     fn numbers_made(heap: Global, rows: usize) -> Result<bool, AllocError> {
         let data = vec![in heap; 0u8; rows.saturating_mul(8)]?;
-        match Column::new(1, rows, &[], &[], &data) {
-            Ok(_) => Ok(true),
-            Err(_) => Ok(false),
-        }
+        Ok(Column::new(1, rows, &[], &[], &data).is_ok())
     }
 
     // Whether so many false flags make a boolean column.
     fn flags_made(heap: Global, rows: usize) -> Result<bool, AllocError> {
         let bits = vec![in heap; 0u8; rows.div_ceil(8)]?;
-        match BoolColumn::new(rows, &[], &bits) {
-            Ok(_) => Ok(true),
-            Err(_) => Ok(false),
-        }
+        Ok(BoolColumn::new(rows, &[], &bits).is_ok())
     }
 
     #[test]
@@ -138,19 +118,19 @@ mod tests {
     #[test]
     fn groups_at_the_limit(rt: HostRuntime) {
         let mut stage = stage();
-        assert_eq!(rt; grow(&mut stage, 1, 257), 6);
-        assert_eq!(rt; grow(&mut stage, 1, 256), 0);
-        assert_eq!(rt; grow(&mut stage, 1, 255), 10);
-        assert_eq!(rt; grow(&mut stage, 1, 256), 0);
+        assert_eq!(rt; grow(&mut stage, 1, 257), Err(6));
+        assert_eq!(rt; grow(&mut stage, 1, 256), Ok(()));
+        assert_eq!(rt; grow(&mut stage, 1, 255), Err(10));
+        assert_eq!(rt; grow(&mut stage, 1, 256), Ok(()));
     }
 
     #[test]
     fn order_columns_at_the_limit(rt: HostRuntime) {
         let mut stage = stage();
-        assert_eq!(rt; grow(&mut stage, 0, 1), 4);
-        assert_eq!(rt; grow(&mut stage, 2, 1), 4);
-        assert_eq!(rt; grow(&mut stage, 4, 1), 4);
-        assert_eq!(rt; grow(&mut stage, 1, 1), 0);
+        assert_eq!(rt; grow(&mut stage, 0, 1), Err(4));
+        assert_eq!(rt; grow(&mut stage, 2, 1), Err(4));
+        assert_eq!(rt; grow(&mut stage, 4, 1), Err(4));
+        assert_eq!(rt; grow(&mut stage, 1, 1), Ok(()));
         assert!(rt; NumberOrder::check(0).is_err());
         assert!(rt; NumberOrder::check(1).is_ok());
         assert!(rt; NumberOrder::check(3).is_ok());
@@ -162,15 +142,15 @@ mod tests {
     fn outputs_exactly_full_and_one_short(rt: HostRuntime) -> Result<(), Fail> {
         let heap = rt.alloc();
         let mut stage = stage();
-        assert_eq!(rt; grow(&mut stage, 1, 9), 0);
+        assert_eq!(rt; grow(&mut stage, 1, 9), Ok(()));
         let left = leave(heap, &mut stage, 9, 1, 72)?;
-        assert_eq!(rt; left.answer, 1008);
+        assert_eq!(rt; left.answer, Err(8));
         assert!(rt; all(&left.validity, 255) && all(&left.data, 255));
         let left = leave(heap, &mut stage, 9, 2, 71)?;
-        assert_eq!(rt; left.answer, 1008);
+        assert_eq!(rt; left.answer, Err(8));
         assert!(rt; all(&left.validity, 255) && all(&left.data, 255));
         let left = leave(heap, &mut stage, 9, 2, 72)?;
-        assert_eq!(rt; left.answer, 9);
+        assert_eq!(rt; left.answer, Ok(9));
         assert!(rt; all(&left.validity, 0) && all(&left.data, 0));
         Ok(())
     }
@@ -180,16 +160,16 @@ mod tests {
     fn first_above_below_and_at(rt: HostRuntime) -> Result<(), Fail> {
         let heap = rt.alloc();
         let mut stage = stage();
-        assert_eq!(rt; grow(&mut stage, 1, 3), 0);
-        assert_eq!(rt; leave(heap, &mut stage, 4, 1, 32)?.answer, 1011);
+        assert_eq!(rt; grow(&mut stage, 1, 3), Ok(()));
+        assert_eq!(rt; leave(heap, &mut stage, 4, 1, 32)?.answer, Err(11));
         let left = leave(heap, &mut stage, 2, 2, 17)?;
-        assert_eq!(rt; left.answer, 2);
+        assert_eq!(rt; left.answer, Ok(2));
         assert_eq!(rt; left.validity.get(1).copied(), Some(255));
         assert_eq!(rt; left.data.get(15).copied(), Some(0));
         assert_eq!(rt; left.data.get(16).copied(), Some(255));
-        assert_eq!(rt; leave(heap, &mut stage, 1, 1, 8)?.answer, 1);
-        assert_eq!(rt; leave(heap, &mut stage, 0, 0, 0)?.answer, 0);
-        assert_eq!(rt; leave(heap, &mut stage, 1, 1, 8)?.answer, 1011);
+        assert_eq!(rt; leave(heap, &mut stage, 1, 1, 8)?.answer, Ok(1));
+        assert_eq!(rt; leave(heap, &mut stage, 0, 0, 0)?.answer, Ok(0));
+        assert_eq!(rt; leave(heap, &mut stage, 1, 1, 8)?.answer, Err(11));
         Ok(())
     }
 }

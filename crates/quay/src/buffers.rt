@@ -1,23 +1,13 @@
 // Arrow buffers for the columns of a batch.
-use layout::Output;
+use column::{BoolColumn, Column, ColumnFault};
+use layout::{FlagOutput, FlagSource, Output};
 use std::alloc::{AllocError, Global};
 
 // The buffers of a column of numbers.
 #[derive(Drop)]
 pub struct Numbers {
-    pub validity: Vec<u8>,
-    pub data: Vec<u8>,
-}
-
-// Writes a column of numbers to the two buffers; false where they are too short.
-fn put(validity: &mut [u8], data: &mut [u8], cells: &[Option<i64>]) -> bool {
-    let mut offsets: [u32; 0] = [];
-    let mut out = Output {
-        validity,
-        offsets: &mut offsets,
-        data,
-    };
-    out.put_numbers(cells)
+    validity: Vec<u8>,
+    data: Vec<u8>,
 }
 
 impl Numbers {
@@ -31,22 +21,54 @@ impl Numbers {
     // The buffers of a column that shows these numbers.
     pub fn of(heap: Global, cells: &[Option<i64>]) -> Result<Numbers, AllocError> {
         let mut made = Numbers::room(heap, cells.len())?;
-        let _ = put(&mut made.validity, &mut made.data, cells);
+        // There is room for them.
+        let _ = made.output().put_numbers(cells);
         Ok(made)
+    }
+
+    // Where a column of numbers is written to.
+    pub fn output(&mut self) -> Output<'_> {
+        Output {
+            validity: &mut self.validity,
+            offsets: &mut [],
+            data: &mut self.data,
+        }
+    }
+
+    // The column over the buffers.
+    pub fn column(&self) -> Result<Column<'_>, ColumnFault> {
+        Column::new(1, self.data.len() / 8, &self.validity, &[], &self.data)
     }
 }
 
-// Value bits of a boolean column, the lowest bit of each byte first.
-pub fn bits(heap: Global, flags: &[bool]) -> Result<Vec<u8>, AllocError> {
-    let mut made = Vec::new(heap);
-    for chunk in flags.chunks(8) {
-        let mut byte = 0u8;
-        for (k, flag) in chunk.iter().enumerate() {
-            if *flag && k < 8 {
-                byte |= 1 << k as u32;
-            }
-        }
-        made.push(byte)?;
+// The buffers of a column of truth values.
+#[derive(Drop)]
+pub struct Flags {
+    rows: usize,
+    validity: Vec<u8>,
+    bits: Vec<u8>,
+}
+
+impl Flags {
+    // The buffers of a column that shows the first `rows` truth values.
+    pub fn of<F: FlagSource>(heap: Global, flags: &F, rows: usize) -> Result<Flags, AllocError> {
+        let mut validity = vec![in heap; 0u8; rows.div_ceil(8)]?;
+        let mut bits = vec![in heap; 0u8; rows.div_ceil(8)]?;
+        let mut out = FlagOutput {
+            validity: &mut validity,
+            bits: &mut bits,
+        };
+        // There is room for them.
+        let _ = out.put_flags(flags, rows);
+        Ok(Flags {
+            rows,
+            validity,
+            bits,
+        })
     }
-    Ok(made)
+
+    // The column over the buffers.
+    pub fn column(&self) -> Result<BoolColumn<'_>, ColumnFault> {
+        BoolColumn::new(self.rows, &self.validity, &self.bits)
+    }
 }

@@ -3,6 +3,7 @@
 
 mod buffers;
 mod day;
+mod rows;
 mod rules;
 
 use day::Day;
@@ -18,6 +19,7 @@ const fn holds(event: usize, rule: Rule, rank: i64) -> Match {
     }
 }
 
+// Four events open, and the rules look at them.
 fn morning(rt: &HostRuntime, day: &mut Day) -> anyhow::Result<()> {
     println!(rt; "Morning: four events open, and the rules look at them.")?;
     day.open_events(rt, 4)?;
@@ -33,6 +35,7 @@ fn morning(rt: &HostRuntime, day: &mut Day) -> anyhow::Result<()> {
     )
 }
 
+// A second batch, with a rule whose condition does not hold.
 fn noon(rt: &HostRuntime, day: &mut Day) -> anyhow::Result<()> {
     println!(rt; "Noon: a second batch; one rule's condition does not hold.")?;
     day.batch(
@@ -50,6 +53,7 @@ fn noon(rt: &HostRuntime, day: &mut Day) -> anyhow::Result<()> {
     )
 }
 
+// A fifth event opens.
 fn evening(rt: &HostRuntime, day: &mut Day) -> anyhow::Result<()> {
     println!(rt; "Evening: a fifth event opens.")?;
     day.open_events(rt, 1)?;
@@ -59,6 +63,7 @@ fn evening(rt: &HostRuntime, day: &mut Day) -> anyhow::Result<()> {
     )
 }
 
+// The day after: a batch, a row that is declined, and two midnights.
 fn next_day(rt: &HostRuntime, day: &mut Day) -> anyhow::Result<()> {
     println!(rt; "Next morning: the batch goes on with the shifted numbers.")?;
     day.batch(
@@ -73,6 +78,7 @@ fn next_day(rt: &HostRuntime, day: &mut Day) -> anyhow::Result<()> {
     day.midnight(rt, 2)
 }
 
+// The day, its midnight, and the day after.
 fn run(rt: &HostRuntime) -> anyhow::Result<()> {
     let mut day = Day::new(rt);
     morning(rt, &mut day)?;
@@ -83,6 +89,7 @@ fn run(rt: &HostRuntime) -> anyhow::Result<()> {
     next_day(rt, &mut day)
 }
 
+// Runs the two days.
 fn main(rt: HostRuntime) -> anyhow::Result<()> {
     run(&rt)
 }
