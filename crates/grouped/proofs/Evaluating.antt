@@ -2,12 +2,12 @@
 use Rattle.std.proofs.Common.{◌≡◌, ℕ, ◌<◌, ◌≤◌, Bool, true, false, cond, not, ltb, List, [], ◌∷◌, map, length, get_or, take, drop, IsErrAnd, Some, None, Ok, Err, Option, Result, sym, refl, ap, ◌∙◌, arith}
 use Rattle.std.proofs.lemmas.List.{drop-map, take-map}
 use Rattle.std.proofs.lemmas.Result.{err_from_is_err_and}
-use Rattle.std.proofs.lemmas.Bool.{le-ltb, lt-ltb, ltb-false, ltb-true}
+use Rattle.std.proofs.lemmas.Bool.{le-ltb, lt-ltb, ltb-true, not-false}
 use Rattle.column.specs.Cells.{Cell, Kind, null}
 use Rattle.column.specs.Checks.{first_of, outcome, refuse, unless_refused}
 use Rattle.column.specs.Faults.{FEWER, SPACE, fault, in_state}
 use Rattle.layout.specs.Layout.{Parts, fits, laid_out, written}
-use Rattle.tables.proofs.Declining.{drop_fine}
+use Rattle.tables.proofs.Declining.{drop_fine, drop_within, refuse_passed}
 use Rattle.tables.specs.Meaning.{Settings, first_cells, state_of}
 use Rattle.tables.specs.Refusals.{cells_laid, dropping, writing}
 use Rattle.tables.specs.declared.TableFault.TheVariants as table_fault
@@ -20,7 +20,6 @@ use Rattle.book.specs.Declines.{own}
 use Rattle.book.specs.Emission.{Outputs, To, emits, evaluate_declined, value_parts, value_shown}
 use Rattle.book.specs.Winners.{Making, Row}
 use Rattle.faults.specs.Reported.{fault_seen, own_of, placed}
-use Rattle.faults.specs.declared.OwnFault.TheVariants as own_fault
 use Rattle.faults.specs.declared.Fault as coded
 use Rattle.faults.specs.declared.Place.TheVariants.{Call, Values}
 use Rattle.faults.specs.declared.Refusal.TheVariants.{Own, State}
@@ -29,6 +28,7 @@ use Rattle.grouped.specs.Seen.{emission_answer, values_only}
 use Rattle.grouped.specs.declared.notice.ShiftNotice.{ShiftNotice}
 use Rattle.grouped.specs.declared.FirstLastGroupsAccumulator.{FirstLastGroupsAccumulator}
 use Rattle.grouped.proofs.Holding.{flags_length, Does}
+use Rattle.grouped.proofs.Placing.{placed_declines, placed_passes}
 
 -- what writing out and dropping the first n cells leaves, where r says that they fit
 pub record Took (k : Kind) (n : ℕ) (cells : List Cell) (before : Parts) (r : Bool) (cells' : List Cell) (after_it : Parts) : Type 0 where
@@ -68,46 +68,35 @@ taking s es es' n before after_it h p q =
 pub took_on : (s : Settings) (es : List (List Cell)) (n : ℕ) (before : Parts) (r : Result (Unit {0}) StateFault) (x : Unit {0}) → n ≤ length es
     → r ≡ outcome (writing s es n before) tt → Ok x ≡ placed State r Values 0 → fits (cells_laid s es n) before ≡ true
 took_on s es n before r x h e k =
-    go (fits (cells_laid s es n) before) (k ∙ ap (λ y. placed State y Values 0) (e ∙ ap (λ o. outcome o tt) (writing_is s es n before h)))
-  where
-    go : (b : Bool) → Ok x ≡ placed State (outcome (refuse (not b) state_fault.Space) (tt {0})) Values 0 → b ≡ true
-    go true q = refl
-    go false q = absurd (let z : ◌≡◌ {A = ℕ} 0 1 = cc in omega arith)
+    not-false _ (refuse_passed _ _ (sym (writing_is s es n before h) ∙ placed_passes State r Values 0 (writing s es n before) tt e x k))
 
 pub took_not : (s : Settings) (es : List (List Cell)) (n : ℕ) (before : Parts) (r : Result (Unit {0}) StateFault) (f : coded.Fault) → n ≤ length es
     → r ≡ outcome (writing s es n before) tt → Err f ≡ placed State r Values 0 → (fits (cells_laid s es n) before ≡ false) × (fault_seen f ≡ fault SPACE in_state 0 0)
 took_not s es n before r f h e k =
-    go (fits (cells_laid s es n) before) (k ∙ ap (λ y. placed State y Values 0) (e ∙ ap (λ o. outcome o tt) (writing_is s es n before h)))
+    let d = placed_declines State r Values 0 (writing s es n before) tt e f k in
+    go (fits (cells_laid s es n) before) d.0 (sym (writing_is s es n before h) ∙ d.1) (ap fault_seen d.2)
   where
-    err_inj : (x y : coded.Fault) → ◌≡◌ {A = Result (Unit {0}) coded.Fault} (Err x) (Err y) → x ≡ y
-    err_inj x y q = cc
-
-    go : (b : Bool) → Err f ≡ placed State (outcome (refuse (not b) state_fault.Space) (tt {0})) Values 0 → (b ≡ false) × (fault_seen f ≡ fault SPACE in_state 0 0)
-    go true q = absurd (let z : ◌≡◌ {A = ℕ} 0 1 = cc in omega arith)
-    go false q = (refl, ap fault_seen (err_inj f (record { refusal = State state_fault.Space; place = Values; row = 0 }) q))
+    go : (b : Bool) (g : StateFault) → refuse (not b) state_fault.Space ≡ Some g → fault_seen f ≡ fault_seen (record { refusal = State g; place = Values; row = 0 }) → (b ≡ false) × (fault_seen f ≡ fault SPACE in_state 0 0)
+    go true g q seen = absurd (let z : ◌≡◌ {A = ℕ} 0 1 = cc in omega arith)
+    go false g q seen = let z : state_fault.Space ≡ g = cc in (refl, seen ∙ ap (λ k. fault_seen (record { refusal = State k; place = Values; row = 0 })) (sym z))
 
 -- more groups are asked for than are held
-pub fewer_are : (held n : ℕ) (r : Result (Unit {0}) TableFault) (f : coded.Fault) → r ≡ outcome (dropping held n) tt
-    → Err f ≡ placed (λ g. Own (own_of g)) r Call 0 → (held < n) × (fault_seen f ≡ own FEWER)
+pub fewer_are : (have n : ℕ) (r : Result (Unit {0}) TableFault) (f : coded.Fault) → r ≡ outcome (dropping have n) tt
+    → Err f ≡ placed (λ g. Own (own_of g)) r Call 0 → (have < n) × (fault_seen f ≡ own FEWER)
 unfolding dropping
-fewer_are held n r f e k = go (ltb held n) refl (k ∙ ap (λ y. placed (λ g. Own (own_of g)) y Call 0) e)
+fewer_are have n r f e k =
+    let d = placed_declines (λ g. Own (own_of g)) r Call 0 (dropping have n) tt e f k in
+    go (ltb have n) refl d.0 d.1 (ap fault_seen d.2)
   where
-    err_inj : (x y : coded.Fault) → ◌≡◌ {A = Result (Unit {0}) coded.Fault} (Err x) (Err y) → x ≡ y
-    err_inj x y q = cc
-
-    go : (b : Bool) → ltb held n ≡ b → Err f ≡ placed (λ g. Own (own_of g)) (outcome (first_of (refuse b table_fault.Fewer ∷ [])) (tt {0})) Call 0 → (held < n) × (fault_seen f ≡ own FEWER)
-    go true h q = (ltb-true held n h, ap fault_seen (err_inj f (record { refusal = Own own_fault.Fewer; place = Call; row = 0 }) q))
-    go false h q = absurd (let z : ◌≡◌ {A = ℕ} 0 1 = cc in omega arith)
+    go : (b : Bool) → ltb have n ≡ b → (g : TableFault) → first_of (refuse b table_fault.Fewer ∷ []) ≡ Some g
+        → fault_seen f ≡ fault_seen (record { refusal = Own (own_of g); place = Call; row = 0 }) → (have < n) × (fault_seen f ≡ own FEWER)
+    go true h g q seen = let z : table_fault.Fewer ≡ g = cc in (ltb-true have n h, seen ∙ ap (λ k. fault_seen (record { refusal = Own (own_of k); place = Call; row = 0 })) (sym z))
+    go false h g q seen = absurd (let z : ◌≡◌ {A = ℕ} 0 1 = cc in omega arith)
 
 -- as many groups as are asked for are held
-pub enough_are : (held n : ℕ) (r : Result (Unit {0}) TableFault) (x : Unit {0}) → r ≡ outcome (dropping held n) tt
-    → Ok x ≡ placed (λ g. Own (own_of g)) r Call 0 → n ≤ held
-unfolding dropping
-enough_are held n r x e k = go (ltb held n) refl (k ∙ ap (λ y. placed (λ g. Own (own_of g)) y Call 0) e)
-  where
-    go : (b : Bool) → ltb held n ≡ b → Ok x ≡ placed (λ g. Own (own_of g)) (outcome (first_of (refuse b table_fault.Fewer ∷ [])) (tt {0})) Call 0 → n ≤ held
-    go true h q = absurd (let z : ◌≡◌ {A = ℕ} 0 1 = cc in omega arith)
-    go false h q = ltb-false held n h
+pub enough_are : (have n : ℕ) (r : Result (Unit {0}) TableFault) (x : Unit {0}) → r ≡ outcome (dropping have n) tt
+    → Ok x ≡ placed (λ g. Own (own_of g)) r Call 0 → n ≤ have
+enough_are have n r x e k = drop_within have n (placed_passes (λ g. Own (own_of g)) r Call 0 (dropping have n) tt e x k)
 
 -- the exit of a `?` in an emission
 pub emission_refused : (r : Result ShiftNotice coded.Fault) (e : coded.Fault) → IsErrAnd r (λ y. y ≡ e) → emission_answer r ≡ refused (fault_seen e)
