@@ -1,5 +1,5 @@
 -- Faults: the numbers of refusals and of layers.
---   KIND, SHAPE, ROWS, COLS, LONG, TOTAL, GROUP, SPACE, SHRUNK, FEWER, EMPTY   the number of each refusal, as users see it
+--   KIND, SHAPE, ROWS, COLS, LONG, TOTAL, GROUP, SPACE, FLAGS, SHRUNK, FEWER, EMPTY   the number of each refusal, as users see it
 --   in_column, in_state, in_order, in_accumulator   the number of the layer that a refusal comes from
 --   Fault, fault      a refusal as reported: its number, its layer, and the column and the row where it was met
 --   column_number     the number of each refusal of the column layer
@@ -39,6 +39,10 @@ GROUP = 7
 -- an output part that is too short
 abbrev pub SPACE : ℕ
 SPACE = 8
+
+-- a null flag in a merge without groups
+abbrev pub FLAGS : ℕ
+FLAGS = 9
 
 -- a total below the groups held
 abbrev pub SHRUNK : ℕ

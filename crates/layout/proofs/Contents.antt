@@ -1,14 +1,14 @@
--- The bytes of cells: how many there are, and those of a number.
-use Rattle.std.proofs.Common.{◌≡◌, ℕ, zero, suc, ◌+◌, ◌*◌, ◌/◌, ◌%◌, Bool, true, false, cond, not, ◌&&◌, leb, List, [], ◌∷◌, map, length, ℤ, is_some, Some, None, Option, Ok, Err, Result, sym, refl, ap, ◌∙◌, arith, w64, of_z}
+-- The bytes of cells: how many there are, those of a number and those of a record.
+use Rattle.std.proofs.Common.{◌≡◌, ℕ, zero, suc, ◌+◌, ◌*◌, ◌/◌, ◌%◌, ◌<◌, Bool, true, false, cond, not, ◌&&◌, leb, List, [], ◌∷◌, ◌++◌, map, length, get_or, drop, ℤ, is_some, Some, None, Option, Ok, Err, Result, sym, refl, ap, ◌∙◌, append-nil, arith, length-append, w64, of_z}
 use native.Mathlib.Nat.{div-div-eq-div-mul}
-use Rattle.std.proofs.lemmas.List.{length-map}
+use Rattle.std.specs.List.{flat_map}
+use Rattle.std.proofs.lemmas.List.{length-map, drop_all}
 use Rattle.std.proofs.lemmas.Bool.{le-leb, cond-true, cond-false}
-use Rattle.column.specs.Cells.{Cell, null, number, text, fields, is_null, number_cell}
+use Rattle.column.specs.Cells.{Cell, null, number, text, fields, is_null, number_cell, fields_cell}
 use Rattle.column.specs.Checks.{outcome, refuse}
 use Rattle.layout.specs.declared.OutputFault.{OutputFault}
 use Rattle.layout.specs.declared.OutputFault.TheVariants.{Space}
-use Rattle.layout.specs.Layout.{Parts, bytes_of, number_bytes, number_content, validity_of, fits}
-use Rattle.layout.specs.Written.{numbers_laid}
+use Rattle.layout.specs.Layout.{Parts, bytes_of, bit, has_field, number_bytes, field_bytes, number_content, record_content, validity_of, over, fits}
 use Rattle.layout.proofs.Overs.{joined_length}
 use Rattle.layout.proofs.Packing.{packed_length}
 
@@ -26,6 +26,22 @@ content_length (number z) = number_length z
 content_length (text bs) = refl
 content_length (fields a b c) = refl
 
+pub field_length : (o : Option ℤ) → length (field_bytes o) ≡ 8
+field_length None = refl
+field_length (Some z) = number_length z
+
+-- a number that may be absent has the bytes that its cell has in a column of numbers
+pub field_bytes_is : (o : Option ℤ) → number_content (number_cell o) ≡ field_bytes o
+field_bytes_is None = refl
+field_bytes_is (Some z) = refl
+
+pub record_length : (c : Cell) → length (record_content c) ≡ 25
+record_length null = refl
+record_length (number z) = refl
+record_length (text bs) = refl
+record_length (fields a b c) =
+    let x = field_length a in let y = field_length b in let z = field_length c in simp length-append (omega arith)
+
 -- cells that are null where a value is not there
 pub there_map : {X : Type 0} (f : Option X → Cell) → ((o : Option X) → not (is_null (f o)) ≡ is_some o) → (os : List (Option X)) → map (λ c. not (is_null c)) (map f os) ≡ map is_some os
 there_map f h [] = refl
@@ -38,21 +54,48 @@ pub number_there : (o : Option ℤ) → not (is_null (number_cell o)) ≡ is_som
 number_there None = refl
 number_there (Some z) = refl
 
+pub record_there : (o : Option (List (Option ℤ))) → not (is_null (fields_cell o)) ≡ is_some o
+record_there None = refl
+record_there (Some fs) = refl
+
 -- the room that parts with no offsets need
 pub fits_by : (p before : Parts) (v n : ℕ) → length p.validity ≡ v → p.offsets ≡ [] → length p.content ≡ n → fits p before ≡ (leb v (length before.validity) && leb n (length before.content))
 fits_by p before v n e f h = rw (e, f, h, le-leb 0 (length before.offsets) (omega arith))
 
-pub numbers_fit : (os : List (Option ℤ)) (before : Parts) → fits (numbers_laid os) before ≡ (leb ((length os + 7) / 8) (length before.validity) && leb (8 * length os) (length before.content))
-numbers_fit os before =
-    let n = length-map os number_cell in
-    fits_by (numbers_laid os) before ((length os + 7) / 8) (8 * length os)
-    (validity_length (map number_cell os) ∙ ap (λ k. (k + 7) / 8) n) refl
-    (joined_length number_content 8 content_length (map number_cell os) ∙ ap (λ k. 8 * k) n)
+-- the same where each cell has bytes of one length
+pub wide_fit : {X : Type 0} (f : Cell → List ℕ) (w : ℕ) → ((c : Cell) → length (f c) ≡ w) → (v : X → Cell) (xs : List X) (before : Parts)
+    → fits (record { validity = validity_of (map v xs); offsets = []; content = flat_map f (map v xs) }) before ≡ (leb ((length xs + 7) / 8) (length before.validity) && leb (w * length xs) (length before.content))
+wide_fit f w h v xs before =
+    let n = length-map xs v in
+    fits_by (record { validity = validity_of (map v xs); offsets = []; content = flat_map f (map v xs) }) before ((length xs + 7) / 8) (w * length xs)
+    (validity_length (map v xs) ∙ ap (λ k. (k + 7) / 8) n) refl
+    (joined_length f w h (map v xs) ∙ ap (λ k. w * k) n)
 
 -- the bytes of a word, the lowest first
 pub word_bytes : (n : ℕ)
     → (n % 256) ∷ (n / 256 % 256) ∷ (n / 65536 % 256) ∷ (n / 16777216 % 256) ∷ (n / 4294967296 % 256) ∷ (n / 1099511627776 % 256) ∷ (n / 281474976710656 % 256) ∷ (n / 72057594037927936 % 256) ∷ [] ≡ bytes_of 8 n
 word_bytes n = simp div-div-eq-div-mul
+
+-- the three fields of a record, and its bytes as they are written one field after another behind the presence byte
+abbrev pub three : List (Option ℤ) → List (Option ℤ)
+three fs = get_or fs 0 None ∷ get_or fs 1 None ∷ get_or fs 2 None ∷ []
+
+pub three_at : (fs : List (Option ℤ)) (j : ℕ) → j < 3 → get_or (three fs) j None ≡ get_or fs j None
+three_at fs zero h = refl
+three_at fs (suc zero) h = refl
+three_at fs (suc (suc zero)) h = refl
+three_at fs (suc (suc (suc j))) h = absurd (omega arith)
+
+pub record_whole : (fs : List (Option ℤ)) (p : ℕ) (xs : List ℕ) → length xs ≡ 25
+    → p ≡ bit (has_field (get_or fs 0 None)) + 2 * bit (has_field (get_or fs 1 None)) + 4 * bit (has_field (get_or fs 2 None))
+    → over (p ∷ flat_map field_bytes (three fs)) xs ≡ record_content (fields_cell (Some fs))
+record_whole fs p xs h e =
+    let n : length (p ∷ flat_map field_bytes (three fs)) ≡ 25 = ap suc (joined_length field_bytes 8 field_length (three fs)) in
+    let d : drop (length (p ∷ flat_map field_bytes (three fs))) xs ≡ [] = drop_all (length (p ∷ flat_map field_bytes (three fs))) xs (omega arith) in
+    ap (λ ys. (p ∷ flat_map field_bytes (three fs)) ++ ys) d
+    ∙ append-nil (p ∷ flat_map field_bytes (three fs))
+    ∙ ap (λ ys. p ∷ (field_bytes (get_or fs 0 None) ++ (field_bytes (get_or fs 1 None) ++ ys))) (append-nil (field_bytes (get_or fs 2 None)))
+    ∙ ap (λ q. q ∷ (field_bytes (get_or fs 0 None) ++ (field_bytes (get_or fs 1 None) ++ field_bytes (get_or fs 2 None)))) e
 
 -- what a call answers, and what it leaves, as a test holds or not
 pub refused : (b : Bool) → b ≡ false → ◌≡◌ {A = Result (Unit {0}) OutputFault} (Err Space) (outcome (refuse (not b) Space) tt)

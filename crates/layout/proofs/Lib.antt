@@ -1,3 +1,6 @@
 pub mod Packing
+pub mod Unpacking
 pub mod Overs
 pub mod Contents
+pub mod Octets
+pub mod Offsets

@@ -95,10 +95,10 @@ packed_more bs xs j e l m =
     ∙ ap (λ y. packed bs ++ y ∷ []) (byte_last bs xs j e m)
 
 -- the truth values of so many rows, row by row
-shown_length : (v : Option Bool → Bool) (f : ℕ → Option Bool) (n : ℕ) → length (map v (map f (count_up 0 n))) ≡ n
+pub shown_length : (v : Option Bool → Bool) (f : ℕ → Option Bool) (n : ℕ) → length (map v (map f (count_up 0 n))) ≡ n
 shown_length v f n = length-map (map f (count_up 0 n)) v ∙ length-map (count_up 0 n) f ∙ ap length (count_up_counting 0 n) ∙ length-range_with_len 0 n
 
-shown_at : (v : Option Bool → Bool) (f : ℕ → Option Bool) (n k : ℕ) → k < n → get_or (map v (map f (count_up 0 n))) k false ≡ v (f k)
+pub shown_at : (v : Option Bool → Bool) (f : ℕ → Option Bool) (n k : ℕ) → k < n → get_or (map v (map f (count_up 0 n))) k false ≡ v (f k)
 shown_at v f n k h =
     ap (λ l. get_or (map v (map f l)) k false) (count_up_counting 0 n)
     ∙ get_or-map v (map f (counting 0 n)) k None false (let l = length-map-range_with_len f 0 n in omega arith)

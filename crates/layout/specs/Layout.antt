@@ -18,7 +18,6 @@
 --   room         a buffer is as long as its part needs
 --   fits, fits_flags   each buffer has room for its part: the space that the parts need
 --   written_all, fits_all   the same of columns, each against the buffers in its place; a column without buffers does not fit
---   short_column the number of the first column that does not fit its buffers, if there is one
 use Rattle.std.specs.Prelude.{ℕ, zero, suc, ◌+◌, ◌*◌, ◌/◌, ◌%◌, Bool, true, false, not, ◌&&◌, List, [], ◌∷◌, ◌++◌, map, length, drop, replicate, ℤ, Some, None, Option, nat_le, if◌then◌else◌}
 use Rattle.std.specs.Int.{w64, cast_unsigned}
 use Rattle.std.specs.List.{flat_map}
@@ -135,9 +134,3 @@ abbrev pub fits_all : List Parts → List Parts → Bool
 fits_all [] os = true
 fits_all (p ∷ ps) [] = false
 fits_all (p ∷ ps) (o ∷ os) = fits p o && fits_all ps os
-
--- the columns are numbered from j on
-abbrev pub short_column : ℕ → List Parts → List Parts → Option ℕ
-short_column j [] os = None
-short_column j (p ∷ ps) [] = Some j
-short_column j (p ∷ ps) (o ∷ os) = if fits p o then short_column (suc j) ps os else Some j

@@ -7,8 +7,13 @@ ghost use Rattle.layout.specs.Written.{parts_seen, roomy};
 mod bits;
 mod flags;
 mod numbers;
+mod records;
+mod short;
+mod shortening;
+mod strings;
 
 pub use flags::FlagSource;
+pub use short::ShortBytes;
 
 // The caller's buffers for one column.
 #[derive(Drop)]

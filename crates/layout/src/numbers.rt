@@ -11,7 +11,7 @@ use crate::bits::put_bits;
 use crate::{Output, OutputFault};
 
 // The eight bytes of a number, zero for a null.
-fn number_bytes(cell: Option<i64>) -> [u8; 8]
+pub(crate) fn number_bytes(cell: Option<i64>) -> [u8; 8]
     ensures { result ≡ number_content (number_cell cell) }
 {
     cell.unwrap_or(0).to_le_bytes()

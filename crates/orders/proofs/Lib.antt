@@ -3,3 +3,4 @@ pub mod Laid
 pub mod Reading
 pub mod Shown
 pub mod Verdicts
+pub mod Same

@@ -1,22 +1,26 @@
 -- The verdict of a number order on keys of numbers is the one of their numbers, column by column.
-use Rattle.std.proofs.Common.{◌≡◌, ℕ, zero, suc, ◌≤◌, Bool, true, false, cond, List, [], ◌∷◌, map, length, take, ℤ, Some, None, Option, Ordering, Less, Equal, Greater, sym, refl, ◌∙◌, ap₂, arith}
+use Rattle.std.proofs.Common.{◌≡◌, ℕ, zero, suc, ◌≤◌, Bool, true, false, cond, List, [], ◌∷◌, map, length, take, ℤ, Some, None, Option, Less, Equal, Greater, sym, refl, ◌∙◌, ap₂, arith}
 use Rattle.std.proofs.lemmas.List.{length-take-le, take_all}
 use Rattle.std.proofs.lemmas.Int.{ints}
+use Rattle.std.specs.Ordering.{int_cmp}
+use Rattle.std.specs.Prelude.{int_le}
 use Rattle.column.specs.Cells.{Cell, number_cell}
 use Rattle.tables.specs.declared.Sorting.{Sorting}
-use Rattle.tables.specs.Delivered.{head_cell, tail_cells, number_leq, by_columns, number_order}
+use Rattle.tables.specs.Delivered.{sorted_leq, as_number, head_cell, tail_cells, number_leq, by_columns, number_order}
 use Rattle.tables.specs.Refusals.{verdict}
-use Rattle.orders.specs.Comparing.{number_verdict, first_unequal, first_number, later_numbers, lex}
+use Rattle.tables.specs.Missing.{sorted_verdict}
+use Rattle.tables.proofs.Ruled.{ruled, sorted_ruled}
+use Rattle.orders.specs.Comparing.{first_unequal, first_number, later_numbers, lex}
 
--- how one stands to another by a relation
-abbrev ruled : {X : Type 0} → (X → X → Bool) → X → X → Ordering
-ruled le a b = cond (le a b) (cond (le b a) Equal Less) Greater
+number_ruled : (x y : ℤ) → ruled int_le x y ≡ int_cmp x y
+number_ruled x y = grind (arith, ints)
 
-one_column : (s : Sorting) (x y : Option ℤ) → ruled (number_leq s) (number_cell x) (number_cell y) ≡ number_verdict s x y
-one_column s None None = refl
-one_column s None (Some y) = grind arith
-one_column s (Some x) None = grind arith
-one_column s (Some x) (Some y) = grind (arith, ints)
+as_shown : (x : Option ℤ) → as_number (number_cell x) ≡ x
+as_shown None = refl
+as_shown (Some z) = refl
+
+one_column : (s : Sorting) (x y : Option ℤ) → ruled (number_leq s) (number_cell x) (number_cell y) ≡ sorted_verdict int_cmp s x y
+one_column s x y = ap₂ (ruled (sorted_leq int_le s)) (as_shown x) (as_shown y) ∙ sorted_ruled int_le int_cmp number_ruled s x y
 
 first_column : (p q r t : Bool) → cond (cond p (cond q r true) false) (cond (cond q (cond p t true) false) Equal Less) Greater ≡ first_unequal (cond p (cond q Equal Less) Greater) (cond r (cond t Equal Less) Greater)
 first_column true true true true = refl
@@ -57,7 +61,7 @@ pub lex_front : (ss : List Sorting) (xs ys : List (Option ℤ)) (n : ℕ) → le
 lex_front [] xs ys n h = refl
 lex_front (s ∷ ss) xs ys zero h = absurd (omega arith)
 lex_front (s ∷ ss) xs ys (suc n) h =
-    ap₂ first_unequal (ap₂ (number_verdict s) (first_kept xs) (first_kept ys))
+    ap₂ first_unequal (ap₂ (sorted_verdict int_cmp s) (first_kept xs) (first_kept ys))
     (ap₂ (lex ss) (later_kept xs) (later_kept ys) ∙ lex_front ss (later_numbers xs) (later_numbers ys) n (omega arith))
   where
     first_kept : (zs : List (Option ℤ)) → first_number (take (suc n) zs) ≡ first_number zs

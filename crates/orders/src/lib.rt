@@ -1,7 +1,6 @@
 // The row order of numbers.
 #![tactic(auto)]
 
-mod comparing;
 mod order;
 mod order_rows;
 mod order_table;

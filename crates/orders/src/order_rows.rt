@@ -1,5 +1,7 @@
 // The number order as a row order.
+ghost use Rattle.std.specs.Bool.{Decides};
 ghost use Rattle.std.specs.Prelude.{◌≡◌, ◌-◌, ◌<◌, ◌≤◌, ◌++◌, map, length, take, replicate, None};
+ghost use Rattle.column.specs.Cells.{number_cell};
 ghost use Rattle.column.specs.Checks.{outcome};
 ghost use Rattle.column.specs.Seen.{columns_seen, kind_seen};
 ghost use Rattle.tables.specs.Refusals.{measuring_key};
@@ -8,7 +10,6 @@ ghost use Rattle.orders.specs.Comparing.{lex};
 ghost use Rattle.orders.specs.Keys.{row_numbers, column_numbers};
 ghost use Rattle.tables.proofs.Ordering.{number_order_laws};
 
-use crate::comparing::compare_numbers;
 use crate::order_table::NumberOrder;
 use column::{Column, Kind};
 use layout::{Output, Space};
@@ -36,12 +37,19 @@ impl NumberOrder {
             if j >= self.count {
                 break Ordering::Equal;
             }
-            let here = compare_numbers(self.sorts[j], a[j], b[j]);
+            let here = self.sorts[j].compare(a[j], b[j]);
             if here != Ordering::Equal {
                 break here;
             }
             j += 1;
         }
+    }
+
+    // Whether a key, by the columns that are read, is the one of another order's.
+    fn same_numbers(&self, a: &[Option<i64>; 3], other: &NumberOrder, b: &[Option<i64>; 3]) -> bool
+        ensures { Decides result (map number_cell (take self.now.count a.now) ≡ map number_cell (take other.now.count b.now)) }
+    {
+        a[..self.count] == b[..other.count]
     }
 
     // The key of a row, nulls past the columns that are read.
@@ -137,6 +145,17 @@ impl RowOrder for NumberOrder {
         let key = self.key(columns, row);
         self.keys.set(group_idx, key);
         Ok(())
+    }
+
+    fn same_key(&self, group: usize, other: &Self, at: usize) -> bool {
+        match (
+            self.keys.as_slice().get(group),
+            other.keys.as_slice().get(at),
+        ) {
+            (Some(a), Some(b)) => self.same_numbers(a, other, b),
+            (None, None) => true,
+            _ => false,
+        }
     }
 
     fn key_space(&self, named: usize, n: usize) -> Result<Space, OrderFault> {

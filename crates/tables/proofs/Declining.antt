@@ -36,11 +36,20 @@ answer_none o y e = ap (λ t. outcome t y) (sym e)
 pub answer_some : {F X : Type 0} (o : Option F) (f : F) (y : X) → o ≡ Some f → Err f ≡ outcome o y
 answer_some o f y e = ap (λ t. outcome t y) (sym e)
 
+-- two answers that are the same wherever the check passes
+pub outcome_same : {F X : Type 0} (o : Option F) (x y : X) → (o ≡ None → x ≡ y) → outcome o x ≡ outcome o y
+outcome_same None x y h = ap Ok (h refl)
+outcome_same (Some f) x y h = refl
+
 pub passed_new : {F X : Type 0} (o : Option F) (new old : X) → o ≡ None → new ≡ unless_refused o new old
 passed_new o new old e = ap (λ t. unless_refused t new old) (sym e)
 
 pub refused_same : {F X : Type 0} (o : Option F) (f : F) (new old : X) → o ≡ Some f → old ≡ unless_refused o new old
 refused_same o f new old e = ap (λ t. unless_refused t new old) (sym e)
+
+-- what is there after a call that is not declined
+pub done_so : {F X : Type 0} (o : Option F) (new old x : X) → x ≡ unless_refused o new old → o ≡ None → x ≡ new
+done_so o new old x e n = e ∙ ap (λ t. unless_refused t new old) n
 
 -- the exit of a `?`
 pub exits : {F X Y : Type 0} (r : Result X F) (f : F) (o : Option F) (x : X) (y : Y) → IsErrAnd r (λ e. e ≡ f) → Err f ≡ outcome o y → r ≡ outcome o x

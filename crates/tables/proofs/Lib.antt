@@ -1,7 +1,12 @@
 pub mod Declining
 pub mod Fronts
+pub mod Held
 pub mod Numbers
 pub mod Ordering
 pub mod Passing
+pub mod Records
 pub mod Taking
 pub mod Walking
+pub mod Ruled
+pub mod Short
+pub mod Strings

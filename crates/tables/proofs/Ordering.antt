@@ -1,12 +1,12 @@
--- The relations that come with the stage are total and transitive, and the states and orders of numbers keep their laws.
-use Rattle.std.proofs.Common.{◌≡◌, ℕ, zero, suc, Bool, true, ◌||◌, List, [], ◌∷◌, map, get_or, Some, None, Option, refl, arith}
+-- The relations that come with the stage are total and transitive, and the states and orders keep their laws.
+use Rattle.std.proofs.Common.{◌≡◌, ℕ, zero, suc, ◌<◌, Bool, true, ◌&&◌, ◌||◌, ltb, leb, List, [], ◌∷◌, map, length, get_or, ℤ, Some, None, Option, refl, arith}
 use Rattle.std.specs.List.{AllByRecursion}
 use Rattle.std.proofs.lemmas.Int.{ints}
-use Rattle.std.proofs.lemmas.Bool.{ltb-true, false≢true}
-use Rattle.column.specs.Cells.{numbers, Cell, null, number, text, fields, Proper}
+use Rattle.std.proofs.lemmas.Bool.{ltb-true, leb-true, and_parts, false≢true}
+use Rattle.column.specs.Cells.{numbers, strings, records, Cell, null, number, text, fields, FieldFits, Proper}
 use Rattle.tables.specs.declared.Sorting.{Sorting}
 use Rattle.tables.specs.Meaning.{StateLaws, OrderLaws, state_of}
-use Rattle.tables.specs.Delivered.{sorted_leq, head_cell, tail_cells, by_columns, as_number, number_leq, takes_number, number_state, number_order}
+use Rattle.tables.specs.Delivered.{sorted_leq, head_cell, tail_cells, by_columns, as_number, number_leq, all_bytes, takes_number, takes_text, takes_field, takes_record, number_state, bytes_state, record_state, number_order}
 
 pub record Preorder {X : Type 0} (le : X → X → Bool) : Type 0 where
   pub total : (a b : X) → (le a b || le b a) ≡ true
@@ -64,6 +64,32 @@ number_proper (number z) h = (refl, record { sfits = ltb-true _ _ h })
 number_proper (text bs) h = absurd (false≢true h)
 number_proper (fields a b c) h = absurd (false≢true h)
 
+field_proper : (o : Option ℤ) → takes_field o ≡ true → FieldFits o
+field_proper None h = tt
+field_proper (Some z) h = record { sfits = ltb-true _ _ h }
+
+record_proper : (c : Cell) → takes_record c ≡ true → Proper records c
+record_proper null h = tt
+record_proper (number z) h = absurd (false≢true h)
+record_proper (text bs) h = absurd (false≢true h)
+record_proper (fields a b c) h =
+    let p = and_parts (takes_field a) (takes_field b && takes_field c) h in
+    let q = and_parts (takes_field b) (takes_field c) p.1 in
+    (refl, field_proper a p.0, field_proper b q.0, field_proper c q.1)
+
+bytes_below : (bs : List ℕ) → all_bytes bs ≡ true → AllByRecursion (λ b. b < 256) bs
+bytes_below [] h = tt
+bytes_below (b ∷ bs) h = let p = and_parts (ltb b 256) (all_bytes bs) h in (ltb-true b 256 p.0, bytes_below bs p.1)
+
+pub text_proper : (c : Cell) → takes_text c ≡ true → Proper strings c
+text_proper null h = tt
+text_proper (number z) h = absurd (false≢true h)
+text_proper (text bs) h =
+    let p = and_parts (leb (length bs) 32) (all_bytes bs) h in
+    let l = leb-true (length bs) 32 p.0 in
+    (refl, bytes_below bs p.1, omega arith)
+text_proper (fields a b c) h = absurd (false≢true h)
+
 pub number_kinds : (ss : List Sorting) (j : ℕ) → get_or (map (λ s. numbers) ss) j numbers ≡ numbers
 number_kinds [] j = refl
 number_kinds (s ∷ ss) zero = refl
@@ -71,6 +97,12 @@ number_kinds (s ∷ ss) (suc j) = number_kinds ss j
 
 pub number_state_laws : StateLaws (state_of number_state)
 number_state_laws = record { takes_null = refl; takes_proper = number_proper }
+
+pub record_state_laws : StateLaws (state_of record_state)
+record_state_laws = record { takes_null = refl; takes_proper = record_proper }
+
+pub bytes_state_laws : StateLaws (state_of bytes_state)
+bytes_state_laws = record { takes_null = refl; takes_proper = text_proper }
 
 pub number_order_laws : (ss : List Sorting) → OrderLaws (number_order ss)
 number_order_laws ss =

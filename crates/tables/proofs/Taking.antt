@@ -34,7 +34,7 @@ taking_short : (s : Settings) (es : List (List Cell)) (n : ℕ) (before : List P
 unfolding taking_keys
 taking_short s es n before e h = rw (e, h)
 
-taking_fine : (s : Settings) (es : List (List Cell)) (n : ℕ) (before : List Parts) → dropping (length es) n ≡ None → fits_all (keys_laid s es n) before ≡ true → taking_keys s es n before ≡ None
+pub taking_fine : (s : Settings) (es : List (List Cell)) (n : ℕ) (before : List Parts) → dropping (length es) n ≡ None → fits_all (keys_laid s es n) before ≡ true → taking_keys s es n before ≡ None
 unfolding taking_keys
 taking_fine s es n before e h = rw (e, h)
 

@@ -1,4 +1,6 @@
 pub mod Meaning
 pub mod Numbered
 pub mod Refusals
+pub mod Missing
 pub mod Delivered
+pub mod Texts

@@ -1,11 +1,10 @@
 // A fixed table of entries.
-ghost use Rattle.std.specs.Prelude.{◌≡◌, ◌+◌, ◌-◌, ◌*◌, ◌/◌, ◌≤◌, [], ◌++◌, length, take, drop, replicate, slice_set};
+ghost use Rattle.std.specs.Prelude.{◌≡◌, ◌-◌, ◌≤◌, [], ◌++◌, length, take, drop, replicate, slice_set};
 ghost use Rattle.column.specs.Checks.{outcome, unless_refused};
 ghost use Rattle.tables.specs.Refusals.{growing, dropping};
 
 use crate::TableFault;
 use crate::checks::{check_drop, check_grow};
-use layout::Space;
 use std::marker::Model;
 
 // Up to 256 entries, one for each held group: an array and a count, since by a rule of the project a table has fixed memory.
@@ -61,18 +60,6 @@ impl<T: Copy> Entries<T> {
         ensures few { length self.now ≤ 256 }
     {
         &self.table[..self.len]
-    }
-
-    // The space that a number for each of the first `n` entries needs: FEWER.
-    pub fn number_space(&self, n: usize) -> Result<Space, TableFault>
-        ensures { result ≡ outcome (dropping (length self.now) n) (record { validity = (n + 7) / 8; offsets = 0; «data» = 8 * n }) }
-    {
-        check_drop(self.len, n)?;
-        Ok(Space {
-            validity: (n + 7) / 8,
-            offsets: 0,
-            data: 8 * n,
-        })
     }
 
     // Sets one held entry; there is none past the last.

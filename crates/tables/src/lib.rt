@@ -5,8 +5,11 @@ mod checks;
 mod entries;
 mod faults;
 mod order;
+mod sorted;
+mod spaces;
 mod state;
 mod table;
+mod texts;
 
 pub use checks::{
     check_cell, check_count, check_drop, check_grow, check_held_cell, check_held_key, check_key,
@@ -16,6 +19,7 @@ pub use entries::Entries;
 pub use order::RowOrder;
 pub use state::ValueState;
 pub use table::GroupTable;
+pub use texts::short_text;
 
 // Why a group table declines to grow or to drop.
 #[derive(Clone, Copy)]
@@ -23,6 +27,12 @@ pub enum TableFault {
     Total,
     Shrunk,
     Fewer,
+}
+
+// Why a table cannot hold a byte string.
+#[derive(Clone, Copy)]
+pub enum TextFault {
+    Long,
 }
 
 // Why a value state declines a call.

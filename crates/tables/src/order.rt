@@ -1,5 +1,6 @@
 // Row orders.
-ghost use Rattle.std.specs.Prelude.{◌≡◌, false, [], ◌∷◌, length, drop, nat_le, slice_index_or, slice_set};
+ghost use Rattle.std.specs.Bool.{Decides};
+ghost use Rattle.std.specs.Prelude.{◌≡◌, false, [], ◌∷◌, length, drop, nat_le, slice_get, slice_index_or, slice_set};
 ghost use Rattle.column.specs.Checks.{outcome, unless_refused};
 ghost use Rattle.column.specs.Seen.{column_seen, columns_seen};
 ghost use Rattle.layout.specs.Layout.{written, written_all};
@@ -56,6 +57,10 @@ pub trait RowOrder: GroupTable<Fault = OrderFault> {
         ensures answer { result ≡ outcome (key_refused (Self.GroupTable.settings self.old) (nat_le (length (Self.GroupTable.entries self.old)) group_idx) (columns_seen columns.entry count) count (row ∷ [])) tt }
         ensures after { Self.GroupTable.entries self.new ≡ unless_refused (key_refused (Self.GroupTable.settings self.old) (nat_le (length (Self.GroupTable.entries self.old)) group_idx) (columns_seen columns.entry count) count (row ∷ [])) (slice_set (Self.GroupTable.entries self.old) group_idx (key_at (columns_seen columns.entry count) row)) (Self.GroupTable.entries self.old) }
         ensures kept { Self.GroupTable.settings self.new ≡ Self.GroupTable.settings self.old };
+
+    // Whether a group's key is the one that another order holds for the group `at`; groups that neither holds count as the same.
+    fn same_key(&self, group: usize, other: &Self, at: usize) -> bool
+        ensures { Decides result (slice_get (Self.GroupTable.entries self.now) group ≡ slice_get (Self.GroupTable.entries other.now) at) };
 
     // The space that the first `n` cells of key column `named` need: COLS, FEWER.
     fn key_space(&self, named: usize, n: usize) -> Result<Space, OrderFault>

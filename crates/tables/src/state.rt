@@ -1,12 +1,13 @@
 // Value states.
-ghost use Rattle.std.specs.Prelude.{◌≡◌, false, [], ◌∷◌, length, drop, nat_le, slice_set};
+ghost use Rattle.std.specs.Bool.{Decides};
+ghost use Rattle.std.specs.Prelude.{◌≡◌, false, [], ◌∷◌, length, drop, nat_le, slice_get, slice_set};
 ghost use Rattle.std.specs.Option.{option_map};
 ghost use Rattle.column.specs.Checks.{outcome, unless_refused};
 ghost use Rattle.column.specs.Columns.{cell_at};
 ghost use Rattle.column.specs.Seen.{column_seen};
 ghost use Rattle.layout.specs.Layout.{written};
 ghost use Rattle.layout.specs.Written.{parts_seen, space_of};
-ghost use Rattle.tables.specs.Meaning.{StateLaws, state_of};
+ghost use Rattle.tables.specs.Meaning.{StateLaws, state_of, first_cells};
 ghost use Rattle.tables.specs.Refusals.{unread, cell_refused, cells_laid, dropping, writing};
 ghost use Rattle.tables.specs.declared.StateFault.TheVariants as state;
 
@@ -29,6 +30,10 @@ pub trait ValueState: GroupTable<Fault = StateFault> {
         ensures answer { result ≡ outcome (cell_refused (Self.GroupTable.settings self.old) (nat_le (length (Self.GroupTable.entries self.old)) group_idx) (column_seen column.now) row) tt }
         ensures after { Self.GroupTable.entries self.new ≡ unless_refused (cell_refused (Self.GroupTable.settings self.old) (nat_le (length (Self.GroupTable.entries self.old)) group_idx) (column_seen column.now) row) (slice_set (Self.GroupTable.entries self.old) group_idx (cell_at (column_seen column.now) row ∷ [])) (Self.GroupTable.entries self.old) }
         ensures kept { Self.GroupTable.settings self.new ≡ Self.GroupTable.settings self.old };
+
+    // Whether a group's cell is the one that another state holds for the group `at`; groups that neither holds count as the same.
+    fn same_cell(&self, group: usize, other: &Self, at: usize) -> bool
+        ensures { Decides result (slice_get (first_cells (Self.GroupTable.entries self.now)) group ≡ slice_get (first_cells (Self.GroupTable.entries other.now)) at) };
 
     // The space that the first `n` cells need: FEWER.
     fn space(&self, n: usize) -> Result<Space, StateFault>

@@ -1,5 +1,7 @@
 // The number state.
-ghost use Rattle.std.specs.Prelude.{◌≡◌, []};
+ghost use Rattle.std.specs.Bool.{Decides};
+ghost use Rattle.std.specs.Prelude.{◌≡◌, [], map, slice_get};
+ghost use Rattle.column.specs.Cells.{number_cell};
 ghost use Rattle.tables.specs.Delivered.{number_state};
 ghost use Rattle.tables.specs.declared.StateFault.TheVariants as state;
 ghost use Rattle.values.specs.Held.{state_entries, state_settings};
@@ -26,6 +28,22 @@ impl NumberValueState {
     {
         NumberValueState {
             cells: Entries::new(None),
+        }
+    }
+}
+
+impl NumberValueState {
+    // Whether a number is the one that another state holds; groups that neither holds count as the same.
+    fn same_number(&self, group: usize, other: &NumberValueState, at: usize) -> bool
+        ensures { Decides result (slice_get (map number_cell self.now.cells) group ≡ slice_get (map number_cell other.now.cells) at) }
+    {
+        match (
+            self.cells.as_slice().get(group),
+            other.cells.as_slice().get(at),
+        ) {
+            (Some(a), Some(b)) => a == b,
+            (None, None) => true,
+            _ => false,
         }
     }
 }
@@ -71,6 +89,10 @@ impl ValueState for NumberValueState {
         check_held_cell(Kind::Number, self.cells.len(), group_idx, column, row)?;
         self.cells.set(group_idx, column.number(row));
         Ok(())
+    }
+
+    fn same_cell(&self, group: usize, other: &Self, at: usize) -> bool {
+        self.same_number(group, other, at)
     }
 
     fn space(&self, n: usize) -> Result<Space, StateFault> {

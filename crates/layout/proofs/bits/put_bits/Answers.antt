@@ -1,4 +1,4 @@
-use Rattle.std.proofs.Common.{◌≡◌, ◌+◌, ◌*◌, ◌/◌, ◌≤◌, length, [], ◌∷◌, ◌++◌, refl, ap, sym, ◌∙◌, append-nil, arith, drop, length-append, set, take}
+use Rattle.std.proofs.Common.{◌≡◌, ◌*◌, ◌≤◌, length, [], ◌∷◌, ◌++◌, refl, ap, sym, ◌∙◌, append-nil, arith, drop, length-append, set, take}
 use Rattle.std.proofs.lemmas.List.{drop_all, length-take-le}
 use Rattle.layout.specs.Layout.{packed, over}
 use Rattle.layout.proofs.Packing.{packed_more, packed_length, told_more}

@@ -1,4 +1,4 @@
-use Rattle.std.proofs.Common.{◌≡◌, ◌<◌, map, length, get_or, None, refl, arith}
+use Rattle.std.proofs.Common.{◌≡◌, ◌*◌, ◌<◌, [], map, length, get_or, None, refl, arith}
 use Rattle.std.proofs.lemmas.List.{length-map, get_or-map}
 use Rattle.column.specs.Cells.{null, number_cell}
 use Rattle.layout.specs.Layout.{number_content}
@@ -14,5 +14,5 @@ loop-i-preserved c =
     let h : i < length cs = simp length-map (omega arith) in
     let d = get_or-map number_cell c.args.cells.now i None null (omega arith) in
     let y : ys ≡ number_content (get_or cs i null) = cc in
-    let e = over_joined number_content 8 content_length cs null c.args.out.now ys i 8 h refl y in
+    let e = over_joined number_content 8 content_length [] cs null c.args.out.now ys (8 * i) i 8 h (omega arith) refl y in
     grind arith

@@ -1,14 +1,16 @@
 use Rattle.std.proofs.Common.{◌≡◌, length, take, None, Ok, sym, ap, ◌∙◌}
 use Rattle.std.specs.Option.{option_map}
 use Rattle.std.proofs.lemmas.List.{length-map, length-take-le}
+use Rattle.column.specs.Cells.{number_cell}
 use Rattle.layout.specs.Written.{space_of}
 use Rattle.tables.specs.declared.StateFault.TheVariants as state
+use Rattle.tables.specs.Delivered.{number_state}
 use Rattle.tables.specs.Refusals.{dropping}
 use Rattle.tables.proofs.Declining.{passed, answer_none, drop_within}
+use Rattle.tables.proofs.Held.{held_laid}
 use Rattle.tables.proofs.Numbers.{numbers_space}
 use Rattle.tables.proofs.Taking.{measured}
 use Rattle.values.specs.Held.{state_entries}
-use Rattle.values.proofs.Laid.{state_laid}
 use Rattle.values.proofs.state.NumberValueStateValueState.space.Goals as goal
 
 pub returns : goal.returns
@@ -17,5 +19,5 @@ returns c =
     let n = c.args.n in
     let p = passed _ _ _ c.in_ok-number_space.ensures in
     let e : dropping (length (state_entries c.args.self.now)) n ≡ None = ap (λ k. dropping k n) (length-map xs _) ∙ p in
-    ap Ok (measured _ _ _ c.in_ok-number_space.ensures ∙ numbers_space (take n xs) n (length-take-le n xs (drop_within _ _ p)) ∙ ap space_of (sym (state_laid xs n)))
+    ap Ok (measured _ _ _ c.in_ok-number_space.ensures ∙ numbers_space (take n xs) n (length-take-le n xs (drop_within _ _ p)) ∙ ap space_of (sym (held_laid number_cell number_state xs n)))
     ∙ answer_none _ _ (ap (option_map state.Table) e)

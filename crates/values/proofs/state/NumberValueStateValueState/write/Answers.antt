@@ -1,13 +1,14 @@
 use Rattle.std.proofs.Common.{cond, take, sym, ap, ◌∙◌, rules}
 use Rattle.std.proofs.lemmas.List.{length-map}
+use Rattle.column.specs.Cells.{number_cell}
 use Rattle.layout.specs.Layout.{written}
 use Rattle.layout.specs.Written.{parts_seen, numbers_laid}
 use Rattle.tables.specs.Delivered.{number_state}
 use Rattle.tables.specs.Refusals.{dropping}
 use Rattle.tables.proofs.Declining.{passed, declined, answer_none, answer_some, passed_new, refused_same, drop_within, exits}
 use Rattle.tables.proofs.Passing.{writing_fewer, put_fails, put_fits}
+use Rattle.tables.proofs.Held.{held_laid, write_fails, write_fits}
 use Rattle.values.specs.Held.{state_entries}
-use Rattle.values.proofs.Laid.{state_laid, write_fails, write_fits}
 use Rattle.values.proofs.state.NumberValueStateValueState.write.Goals as goal
 
 pub returns-in_err-check_drop-clause-answer : goal.returns-in_err-check_drop-clause-answer
@@ -27,7 +28,7 @@ pub returns-in_err-put_numbers-clause-answer : goal.returns-in_err-put_numbers-c
 returns-in_err-put_numbers-clause-answer c =
     let p = passed _ _ _ c.in_ok-check_drop.ensures in
     exits _ _ _ _ _ c.from_residual-in_err-put_numbers.ensures.1
-    (answer_some _ _ (tt {0}) (write_fails c.args.self.now.cells _ c.args.n c.len.result _ _ c.len.ensures.held c.as_slice.ensures.held p c.in_err-put_numbers.ensures.answer))
+    (answer_some _ _ (tt {0}) (write_fails number_cell number_state c.args.self.now.cells _ c.args.n c.len.result _ _ c.len.ensures.held c.as_slice.ensures.held p c.in_err-put_numbers.ensures.answer))
 
 pub returns-in_err-put_numbers-clause-after : goal.returns-in_err-put_numbers-clause-after
 returns-in_err-put_numbers-clause-after c =
@@ -36,12 +37,12 @@ returns-in_err-put_numbers-clause-after c =
     let o = parts_seen c.args.out.now in
     r.after
     ∙ ap (λ b. cond b (written (numbers_laid (take c.args.n c.as_slice.result.now)) o) o) (put_fails _ _ r.answer)
-    ∙ refused_same _ _ _ _ (write_fails c.args.self.now.cells _ c.args.n c.len.result o _ c.len.ensures.held c.as_slice.ensures.held p r.answer)
+    ∙ refused_same _ _ _ _ (write_fails number_cell number_state c.args.self.now.cells _ c.args.n c.len.result o _ c.len.ensures.held c.as_slice.ensures.held p r.answer)
 
 pub returns-clause-answer : goal.returns-clause-answer
 returns-clause-answer c =
     let p = passed _ _ _ c.in_ok-check_drop.ensures in
-    answer_none _ _ (write_fits c.args.self.now.cells _ c.args.n c.len.result _ c.len.ensures.held c.as_slice.ensures.held p c.in_ok-put_numbers.ensures.answer)
+    answer_none _ _ (write_fits number_cell number_state c.args.self.now.cells _ c.args.n c.len.result _ c.len.ensures.held c.as_slice.ensures.held p c.in_ok-put_numbers.ensures.answer)
 
 pub returns-clause-after : goal.returns-clause-after
 returns-clause-after c =
@@ -50,5 +51,5 @@ returns-clause-after c =
     let o = parts_seen c.args.out.now in
     r.after
     ∙ ap (λ b. cond b (written (numbers_laid (take c.args.n c.as_slice.result.now)) o) o) (put_fits _ r.answer)
-    ∙ ap (λ l. written l o) (ap (λ xs. numbers_laid (take c.args.n xs)) c.as_slice.ensures.held ∙ sym (state_laid c.args.self.now.cells c.args.n))
-    ∙ passed_new _ _ _ (write_fits c.args.self.now.cells _ c.args.n c.len.result o c.len.ensures.held c.as_slice.ensures.held p r.answer)
+    ∙ ap (λ l. written l o) (ap (λ xs. numbers_laid (take c.args.n xs)) c.as_slice.ensures.held ∙ sym (held_laid number_cell number_state c.args.self.now.cells c.args.n))
+    ∙ passed_new _ _ _ (write_fits number_cell number_state c.args.self.now.cells _ c.args.n c.len.result o c.len.ensures.held c.as_slice.ensures.held p r.answer)

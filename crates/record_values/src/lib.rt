@@ -1,0 +1,6 @@
+// The value state of records.
+#![tactic(auto)]
+
+mod state;
+
+pub use state::RecordValueState;

@@ -1,2 +1,0 @@
-pub mod Laid
-pub mod Reading
