@@ -13,7 +13,7 @@ stored m None (Some r) = Some r
 stored m (Some w) (Some r) = cond (beats m r w) (Some r) (Some w)
 
 module _ (m : Making) (laws : Lawful m) where
-  beats_low : (y v w : Row) → beats m y v ≡ false → beats m v w ≡ false → beats m y w ≡ false
+  pub beats_low : (y v w : Row) → beats m y v ≡ false → beats m v w ≡ false → beats m y w ≡ false
   beats_low y v w h k = go (beats m y w) refl
     where
       go : (b : Bool) → beats m y w ≡ b → beats m y w ≡ false

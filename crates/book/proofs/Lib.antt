@@ -1,4 +1,3 @@
 pub mod Winning
 pub mod Following
 pub mod ByGroup
-pub mod Worked

@@ -7,11 +7,13 @@
 --   cols, kind, rows, long   the checks COLS, KIND, ROWS and LONG: the value column first, then the order columns, then the filter
 --   flag_rows           how many rows a filter has; without one, as many as are asked for
 --   batch_checks, batch_declined   all checks of a batch in their order, where `held` groups are held, and the first that holds
+--   null_flag           FLAGS at the lowest row whose flag is null; an update has no flags
+--   ungrouped_checks, ungrouped_declined   the same of a batch without groups: an update, or a merge by its flags
 use Rattle.std.specs.Prelude.{ℕ, suc, ◌+◌, min, Bool, not, List, [], ◌∷◌, length, Some, None, Option, ◌==◌, nat_le, nat_lt, slice_index, if◌then◌else◌}
 use Rattle.column.specs.Checks.{refuse, first_of}
-use Rattle.column.specs.Faults.{Fault, fault, KIND, ROWS, COLS, LONG, TOTAL, GROUP, SHRUNK, in_state, in_order, in_accumulator}
+use Rattle.column.specs.Faults.{Fault, fault, KIND, ROWS, COLS, LONG, TOTAL, GROUP, FLAGS, SHRUNK, in_state, in_order, in_accumulator}
 use Rattle.column.specs.Cells.{Kind, Cell, same_kind}
-use Rattle.column.specs.Columns.{Column, Flags, cell_at}
+use Rattle.column.specs.Columns.{Column, Flags, cell_at, present}
 use Rattle.tables.specs.Refusals.{other_kind, cols_fit}
 use Rattle.book.specs.Winners.{Making}
 use Rattle.book.specs.Batches.{Given, Batch, order_columns, every_row}
@@ -83,3 +85,14 @@ batch_checks m held b marks =
 
 unfoldable pub batch_declined : Making → ℕ → Batch → Option Flags → Option Fault
 batch_declined m held b marks = first_of (batch_checks m held b marks)
+
+-- a merge without groups asks each row whether its flag is known
+unfoldable pub null_flag : Given → Option Flags → Option Fault
+null_flag g None = None
+null_flag g (Some f) = at_row (λ r. not (present f.validity r)) (λ r. fault FLAGS in_accumulator 4 r) (every_row g)
+
+abbrev pub ungrouped_checks : Making → Given → Option Flags → List (Option Fault)
+ungrouped_checks m g marks = cols m g ∷ kind m g ∷ rows g marks ∷ null_flag g marks ∷ long m g ∷ []
+
+unfoldable pub ungrouped_declined : Making → Given → Option Flags → Option Fault
+ungrouped_declined m g marks = first_of (ungrouped_checks m g marks)

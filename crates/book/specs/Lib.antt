@@ -3,4 +3,3 @@ pub mod Batches
 pub mod Declines
 pub mod Emission
 pub mod Calls
-pub mod Cases

@@ -1,15 +1,2 @@
-// The book of a grouped accumulator.
+// The book of a grouped accumulator: its definitions and their laws. No code stands here.
 #![tactic(auto)]
-
-ghost use Rattle.std.specs.Prelude.{◌≡◌, length};
-ghost use Rattle.std.specs.List.{AllByRecursion};
-ghost use Rattle.book.specs.Cases.{cases, ComesOut, BytesWritten};
-
-// How many worked cases there are; each comes out as the table says.
-pub fn worked_cases() -> usize
-    ensures count { result ≡ length cases }
-    ensures hold { AllByRecursion ComesOut cases }
-    ensures bytes { BytesWritten }
-{
-    12
-}

@@ -1,5 +1,5 @@
 -- What the checks of a batch find.
-use Rattle.std.proofs.Common.{◌≡◌, ℕ, ◌<◌, ◌≤◌, Bool, true, false, not, ◌&&◌, eqb, ltb, leb, List, [], ◌∷◌, map, length, get_or, IsErrAnd, Some, None, Option, Result, sym, refl, ap, ◌∙◌, arith}
+use Rattle.std.proofs.Common.{◌≡◌, ℕ, ◌<◌, ◌≤◌, Bool, true, false, not, ◌&&◌, eqb, ltb, leb, List, [], ◌∷◌, map, length, get_or, IsErrAnd, Some, None, Option, Result, sym, refl, ap, ap₂, ◌∙◌, arith}
 use Rattle.std.specs.List.{AllByRecursion}
 use Rattle.column.specs.declared.Column as code
 use Rattle.tables.specs.declared.TableFault.TheVariants as table
@@ -17,7 +17,7 @@ use Rattle.column.specs.Seen.{columns_seen, column_seen}
 use Rattle.tables.specs.Meaning.{Settings, state_of}
 use Rattle.tables.specs.Refusals.{growing, cell_refused, named_unread, named_refused, other_kind}
 use Rattle.book.specs.Batches.{Given, Batch, order_columns}
-use Rattle.book.specs.Declines.{at_row, at_column, order_column, own, cols, kind, kind_check, rows, long, rows_check, rows_differ, batch_declined}
+use Rattle.book.specs.Declines.{at_row, at_column, order_column, own, cols, kind, kind_check, rows, long, rows_check, rows_differ, batch_declined, ungrouped_declined}
 use Rattle.book.specs.Winners.{Making}
 use Rattle.faults.specs.Reported.{own_of, placed, place_number, declined_seen, fault_seen}
 use Rattle.faults.specs.declared.Place.{Place}
@@ -33,7 +33,7 @@ pub first_one : {F : Type 0} (o : Option F) → first_of (o ∷ []) ≡ o
 first_one None = refl
 first_one (Some f) = refl
 
-refused : {F : Type 0} (whole : F → Refusal) (t : Bool) (f : F) (p : Place) (n : ℕ)
+pub refused : {F : Type 0} (whole : F → Refusal) (t : Bool) (f : F) (p : Place) (n : ℕ)
     → declined_seen (placed whole (outcome (refuse t f) (tt {0})) p n) ≡ refuse t (fault_seen (record { refusal = whole f; place = p; row = n }))
 refused whole true f p n = refl
 refused whole false f p n = refl
@@ -105,6 +105,16 @@ rows_same a b f e = eqb-true a b (not-false _ (refuse_none _ _ e))
 pub ends_so : (a r : Option Fault) → r ≡ a → r ≡ first_of (a ∷ [])
 ends_so a r e = e ∙ sym (first_one a)
 
+-- the first of some checks declines; the second of three does, or the third decides
+pub first_declines : (a : Option Fault) (cs : List (Option Fault)) (x : Fault) → Some x ≡ a → Some x ≡ first_of (a ∷ cs)
+first_declines a cs x e = ap (λ o. first_of (o ∷ cs)) e
+
+pub second_declines : (a b c : Option Fault) (x : Fault) → None ≡ a → Some x ≡ b → first_of (a ∷ b ∷ c ∷ []) ≡ Some x
+second_declines a b c x e k = ap₂ (λ o p. first_of (o ∷ p ∷ c ∷ [])) (sym e) (sym k)
+
+pub third_decides : (a b c r : Option Fault) → None ≡ a → None ≡ b → r ≡ c → first_of (a ∷ b ∷ c ∷ []) ≡ r
+third_decides a b c r e k d = ap₂ (λ o p. first_of (o ∷ p ∷ c ∷ [])) (sym e) (sym k) ∙ first_one c ∙ sym d
+
 -- two checks that were made as one
 pub two_stop : (a b : Option Fault) (cs : List (Option Fault)) (x : Fault) → Some x ≡ first_of (a ∷ b ∷ []) → Some x ≡ first_of (a ∷ b ∷ cs)
 two_stop None b cs x e = ap (λ o. first_of (o ∷ cs)) (e ∙ first_one b)
@@ -149,3 +159,13 @@ reads_alike s o held b marks x e first nulls = e
 pub declines : (s o : Settings) (held : ℕ) (b : Batch) (marks : Option Flags) (r : Result (Unit {0}) coded.Fault) (e : coded.Fault) → IsErrAnd r (λ y. y ≡ e)
     → Some (fault_seen e) ≡ batch_declined (reading s o) held b marks → (first nulls : Bool) → declined_seen r ≡ batch_declined (made_with s o first nulls) held b marks
 declines s o held b marks r e h k = reads_alike s o held b marks (declined_seen r) (exits r e _ h k)
+
+-- the same of a batch without groups
+pub reads_ungrouped : (s o : Settings) (g : Given) (marks : Option Flags) (x : Option Fault) → x ≡ ungrouped_declined (reading s o) g marks
+    → (first nulls : Bool) → x ≡ ungrouped_declined (made_with s o first nulls) g marks
+unfolding ungrouped_declined cols kind long
+reads_ungrouped s o g marks x e first nulls = e
+
+pub declines_ungrouped : (s o : Settings) (g : Given) (marks : Option Flags) (r : Result (Unit {0}) coded.Fault) (e : coded.Fault) → IsErrAnd r (λ y. y ≡ e)
+    → Some (fault_seen e) ≡ ungrouped_declined (reading s o) g marks → (first nulls : Bool) → declined_seen r ≡ ungrouped_declined (made_with s o first nulls) g marks
+declines_ungrouped s o g marks r e h k = reads_ungrouped s o g marks (declined_seen r) (exits r e _ h k)

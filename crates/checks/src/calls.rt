@@ -3,12 +3,13 @@ ghost use Rattle.std.specs.Prelude.{◌≡◌, Bool, [], ◌∷◌};
 ghost use Rattle.column.specs.Checks.{first_of};
 ghost use Rattle.column.specs.Seen.{marks_seen};
 ghost use Rattle.tables.specs.Meaning.{Settings};
-ghost use Rattle.book.specs.Declines.{cols, rows, batch_declined};
+ghost use Rattle.book.specs.Declines.{cols, rows, batch_declined, ungrouped_declined};
 ghost use Rattle.faults.specs.Reported.{declined_seen};
 ghost use Rattle.checks.specs.Seen.{given_seen, batch_seen, made_with};
 
 use crate::groups::{check_groups, check_total};
 use crate::kinds::{check_cols, check_kinds};
+use crate::marks::check_flags;
 use crate::rows::{check_rows, same_rows};
 use crate::taken::check_long;
 use crate::{Batch, Given};
@@ -46,4 +47,20 @@ pub fn check_columns<O: RowOrder>(
 {
     check_cols(order, given)?;
     check_rows(given, filter)
+}
+
+// All checks of a batch without groups: COLS, KIND, ROWS, in a merge FLAGS, LONG.
+pub fn check_ungrouped<S: ValueState, O: RowOrder>(
+    state: &S,
+    order: &O,
+    given: &Given,
+    flags: Option<BoolColumn>,
+) -> Result<(), Fault>
+    ensures { (first nulls : Bool) → declined_seen result ≡ ungrouped_declined (made_with (S.GroupTable.settings state.now) (O.GroupTable.settings order.now) first nulls) (given_seen given.now) (marks_seen flags.entry) }
+{
+    check_cols(order, given)?;
+    check_kinds(state, order, given)?;
+    check_rows(given, flags)?;
+    check_flags(given, flags)?;
+    check_long(state, order, given)
 }

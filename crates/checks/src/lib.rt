@@ -6,11 +6,12 @@ ghost use Rattle.std.specs.Prelude.{◌≡◌, length};
 mod calls;
 mod groups;
 mod kinds;
+mod marks;
 mod rows;
 mod taken;
 mod walks;
 
-pub use calls::{check_batch, check_columns};
+pub use calls::{check_batch, check_columns, check_ungrouped};
 use column::{BoolColumn, Column};
 
 // The columns of a call: a value column, and the first `count` of an array of order columns, as they come into public calls by a rule of the project.

@@ -10,7 +10,7 @@
 --   placed                  the same where the refusal stands in the fault whole
 use Rattle.std.specs.Prelude.{◌≡◌, ℕ, List, ◌++◌, Some, None, Ok, Err, Option, Result, IsErrAnd, codes, decimal}
 use Rattle.column.specs.Faults as Faults
-use Rattle.column.specs.Faults.{ROWS, COLS, TOTAL, GROUP, SHRUNK, FEWER, in_state, in_order, in_accumulator}
+use Rattle.column.specs.Faults.{ROWS, COLS, TOTAL, GROUP, SPACE, FLAGS, SHRUNK, FEWER, EMPTY, in_state, in_order, in_accumulator}
 use Rattle.tables.specs.Numbered.{state_number, order_number}
 use Rattle.tables.specs.declared.TableFault.{TableFault}
 use Rattle.tables.specs.declared.TableFault.TheVariants as table
@@ -29,7 +29,10 @@ own_number own.Rows = ROWS
 own_number own.Total = TOTAL
 own_number own.Shrunk = SHRUNK
 own_number own.Group = GROUP
+own_number own.Space = SPACE
+own_number own.Flags = FLAGS
 own_number own.Fewer = FEWER
+own_number own.Empty = EMPTY
 
 abbrev pub own_of : TableFault → OwnFault
 own_of table.Total = own.Total

@@ -17,7 +17,10 @@ pub enum OwnFault {
     Total,
     Shrunk,
     Group,
+    Space,
+    Flags,
     Fewer,
+    Empty,
 }
 
 // A refusal of the accumulator's own, or a lower layer's, whole.

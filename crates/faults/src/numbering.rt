@@ -68,7 +68,10 @@ impl Numbered for OwnFault {
             OwnFault::Total => 6,
             OwnFault::Shrunk => 10,
             OwnFault::Group => 7,
+            OwnFault::Space => 8,
+            OwnFault::Flags => 9,
             OwnFault::Fewer => 11,
+            OwnFault::Empty => 12,
         }
     }
 }

@@ -1,9 +1,11 @@
 // A lower layer's refusal inside the accumulator's, with its place and its row.
 ghost use Rattle.std.specs.Prelude.{◌≡◌};
 ghost use Rattle.faults.specs.Reported.{own_of, Placed};
+ghost use Rattle.faults.specs.declared.OwnFault.TheVariants.{Space};
 ghost use Rattle.faults.specs.declared.Refusal.TheVariants.{State, Order, Own};
 
 use crate::{At, Fault, OwnFault, Place, Refusal};
+use layout::OutputFault;
 use tables::{OrderFault, StateFault, TableFault};
 
 // By a rule of the project each lower layer's refusal travels in the fault by a `From` of its own.
@@ -42,6 +44,17 @@ impl From<At<TableFault>> for Fault {
             TableFault::Fewer => OwnFault::Fewer,
         };
         own(fault, e.place, e.row)
+    }
+}
+
+// A flag column's buffer that is too short is the accumulator's own refusal.
+impl From<At<OutputFault>> for Fault {
+    ghost from_gives = { λ e r. r ≡ record { refusal = Own Space; place = e.place; row = e.row } };
+
+    fn from(e: At<OutputFault>) -> Fault {
+        match e.fault {
+            OutputFault::Space => own(OwnFault::Space, e.place, e.row),
+        }
     }
 }
 

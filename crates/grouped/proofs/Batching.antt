@@ -1,5 +1,5 @@
 -- What `update_batch` does to what is held.
-use Rattle.std.proofs.Common.{◌≡◌, ℕ, ◌-◌, ◌≤◌, ◌++◌, List, length, replicate, Some, None, Ok, Err, Option, sym, ap, ◌∙◌, subst, arith}
+use Rattle.std.proofs.Common.{◌≡◌, ℕ, ◌-◌, ◌≤◌, ◌++◌, List, length, replicate, Some, None, Ok, Err, Option, sym, refl, ap, ◌∙◌, subst, arith}
 use Rattle.std.proofs.lemmas.List.{length-append, length-replicate}
 use Rattle.std.specs.declared.result.Result as code
 use Rattle.column.specs.Columns.{Flags}
@@ -18,7 +18,7 @@ use Rattle.grouped.specs.declared.FirstLastGroupsAccumulator.{FirstLastGroupsAcc
 use Rattle.grouped.specs.Accumulators.{making, held, state_settings, order_settings, Shows, Stands}
 use Rattle.grouped.specs.Seen.{batch_answer}
 use Rattle.grouped.specs.Walk.{take_below, Best, SameMade, grown_table}
-use Rattle.grouped.proofs.Holding.{flags_length, made_same, Does}
+use Rattle.grouped.proofs.Holding.{flags_length, made_same, refuses, Does}
 use Rattle.grouped.proofs.Passing.{passes}
 use Rattle.grouped.proofs.Updating.{grown_shows, below_shows, took, took_is_met}
 
@@ -39,7 +39,7 @@ module _ {S O F G : Type 0} {s : Ghosts S F} {o : Ghosts O G} (a : FirstLastGrou
       → Does a ws (update b marks) before (record { result = r; outputs = before }) a
   declines x e r is ws h =
       let d : batch_declined (making a) (length ws) b marks ≡ Some x = ap (λ n. batch_declined (making a) n b marks) (sym (flags_length a ws h)) ∙ sym e in
-      record { replies = rw (is, d); stands = rw d h }
+      refuses a ws (update b marks) before before x r h d is refl
 
   module _ (a₁ a₂ : FirstLastGroupsAccumulator S O F G s o) (laws : Lawful (making a)) (rows : ℕ → Option ℕ) where
     pub finishes : batch_declined (making a) (length a.slots.set) b marks ≡ None

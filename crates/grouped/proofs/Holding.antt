@@ -1,11 +1,12 @@
 -- A call that does to the held winners what the book says obeys its contract.
-use Rattle.std.proofs.Common.{◌≡◌, List, length, Option, sym, refl, ap, ◌∙◌, subst}
+use Rattle.std.proofs.Common.{◌≡◌, List, length, Some, Option, sym, refl, ap, ◌∙◌, subst}
 use lib.ListN.{length-map}
+use Rattle.column.specs.Faults.{Fault}
 use Rattle.tables.specs.Meaning.{StateLaws, OrderLaws, state_of}
 use Rattle.tables.specs.declared.table.GroupTable.{Ghosts}
 use Rattle.book.specs.Winners.{Row, Lawful, winners}
 use Rattle.book.specs.Emission.{Outputs}
-use Rattle.book.specs.Calls.{Call, Answer, after}
+use Rattle.book.specs.Calls.{Call, Result, refused, Answer, declined, after}
 use Rattle.book.proofs.Following.{answer_is, winners_after, held_after, reply}
 use Rattle.grouped.specs.declared.FirstLastGroupsAccumulator.{FirstLastGroupsAccumulator}
 use Rattle.grouped.specs.Accumulators.{making, is_set, Stands, Obeys}
@@ -31,6 +32,11 @@ module _ {S O F G : Type 0} {s : Ghosts S F} {o : Ghosts O G} where
   pub record Does (a : FirstLastGroupsAccumulator S O F G s o) (ws : List (Option Row)) (c : Call) (before : Outputs) (r : Answer) (a' : FirstLastGroupsAccumulator S O F G s o) : Type 0 where
     pub replies : r ≡ reply (making a) ws c before
     pub stands : Stands a' (held_after (making a) ws c before)
+
+  -- a call that is declined changes nothing and writes nothing
+  pub refuses : (a : FirstLastGroupsAccumulator S O F G s o) (ws : List (Option Row)) (c : Call) (before outs : Outputs) (x : Fault) (r : Result) → Stands a ws
+      → declined (making a) ws c before ≡ Some x → r ≡ refused x → outs ≡ before → Does a ws c before (record { result = r; outputs = outs }) a
+  refuses a ws c before outs x r h d is same = record { replies = rw (is, same, d); stands = rw d h }
 
   pub obeys_from_held : (a : FirstLastGroupsAccumulator S O F G s o) → Lawful (making a) → (c : Call) (before : Outputs) (r : Answer) (a' : FirstLastGroupsAccumulator S O F G s o)
       → SameMade a a' → ((ws : List (Option Row)) → Stands a ws → Does a ws c before r a') → Obeys a c before r a'

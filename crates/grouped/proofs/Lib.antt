@@ -5,5 +5,10 @@ pub mod Replacing
 pub mod Updating
 pub mod Holding
 pub mod Batching
+pub mod Merging
 pub mod Dropping
-pub mod Evaluating
+pub mod Flagging
+pub mod Emitting
+pub mod Converting
+pub mod Reached
+pub mod HoldingAlike

@@ -2,7 +2,6 @@
 use Rattle.std.proofs.Common.{◌≡◌, ℕ, zero, suc, ◌<◌, Bool, true, false, leb, List, [], ◌∷◌, length, get_or, set, Some, None, Ok, Option, Result, refl, ap, ◌∙◌, length-set}
 use Rattle.std.proofs.lemmas.Bool.{lt-leb}
 use Rattle.column.specs.Cells.{Cell}
-use Rattle.column.specs.Checks.{unless_refused}
 use Rattle.column.specs.Columns.{Column, cell_at}
 use Rattle.tables.specs.Meaning.{Settings}
 use Rattle.tables.specs.Refusals.{cell_refused, key_refused}
@@ -16,9 +15,6 @@ cell_held s n g c r h e = ap (λ b. cell_refused s b c r) (lt-leb n g h) ∙ e
 
 pub key_held : (s : Settings) (n g : ℕ) (cs : List Column) (k : ℕ) (rs : List ℕ) → g < n → key_refused s false cs k rs ≡ None → key_refused s (leb n g) cs k rs ≡ None
 key_held s n g cs k rs h e = ap (λ b. key_refused s b cs k rs) (lt-leb n g h) ∙ e
-
-pub done_so : {F X : Type 0} (o : Option F) (new old x : X) → x ≡ unless_refused o new old → o ≡ None → x ≡ new
-done_so o new old x e n = e ∙ ap (λ t. unless_refused t new old) n
 
 pub ok_inj : {E : Type 0} (x y : Bool) → ◌≡◌ {A = Result Bool E} (Ok x) (Ok y) → x ≡ y
 ok_inj x y e = cc

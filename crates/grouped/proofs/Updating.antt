@@ -3,7 +3,7 @@ use Rattle.std.proofs.Common.{◌≡◌, ℕ, zero, suc, ◌-◌, ◌<◌, ◌�
 use lib.ListN.{length-map, get_or-map}
 use Rattle.std.proofs.lemmas.List.{map-append, map-set, set-get_or, get_or_default, get_or-set_same, get_or-set_other, ext_get_or}
 use Rattle.std.proofs.lemmas.Bool.{cases_eq}
-use Rattle.column.specs.Cells.{Kind, null}
+use Rattle.column.specs.Cells.{Kind, numbers, null}
 use Rattle.column.specs.Columns.{Flags, cell_at}
 use Rattle.tables.specs.Meaning.{first_cells}
 use Rattle.tables.specs.Refusals.{grown_entries}
@@ -18,10 +18,6 @@ use Rattle.grouped.proofs.Walking.{ahead_beats}
 
 -- Growing
 
-first_null : (ks : List Kind) → get_or (map (λ k. null) ks) 0 null ≡ null
-first_null [] = refl
-first_null (k ∷ ks) = refl
-
 pub grown_shows : (sk ks : List Kind) (t : Table) (ws : Held) (total : ℕ) → Shows ks t ws
     → Shows ks (record { flags = t.flags ++ replicate (total - length t.flags) false; cells = grown_entries sk t.cells total; keys = grown_entries ks t.keys total }) (ws ++ replicate (total - length ws) None)
 grown_shows sk ks t ws total h =
@@ -33,7 +29,7 @@ grown_shows sk ks t ws total h =
           ∙ ap (λ l. map is_set ws ++ l) (sym (map_replicate is_set (total - length ws) None)) ∙ sym (map-append is_set ws (replicate (total - length ws) None));
       values = map-append (λ e. get_or e 0 null) t.cells _
           ∙ ap₂ (λ l n. l ++ first_cells (replicate (total - n) (map (λ k. null) sk))) h.values lc
-          ∙ ap (λ l. map value_shown ws ++ l) (map_replicate (λ e. get_or e 0 null) (total - length ws) (map (λ k. null) sk) ∙ ap (replicate (total - length ws)) (first_null sk) ∙ sym (map_replicate value_shown (total - length ws) None))
+          ∙ ap (λ l. map value_shown ws ++ l) (map_replicate (λ e. get_or e 0 null) (total - length ws) (map (λ k. null) sk) ∙ ap (replicate (total - length ws)) (get_or-map (λ k. null) sk 0 numbers) ∙ sym (map_replicate value_shown (total - length ws) None))
           ∙ sym (map-append value_shown ws (replicate (total - length ws) None));
       keys = ap₂ (λ l n. l ++ replicate (total - n) (map (λ k. null) ks)) h.keys lk
           ∙ ap (λ l. map (key_cells ks) ws ++ l) (sym (map_replicate (key_cells ks) (total - length ws) None)) ∙ sym (map-append (key_cells ks) ws (replicate (total - length ws) None));

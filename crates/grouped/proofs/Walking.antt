@@ -45,7 +45,7 @@ ahead_beats m laws a b = go m.first (m.order.leq a.key b.key) (m.order.leq b.key
     go false false true t = refl
     go false false false t = absurd (false≢true t)
 
-count_push : (s n : ℕ) → count_up s (suc n) ≡ count_up s n ++ (s + n) ∷ []
+pub count_push : (s n : ℕ) → count_up s (suc n) ≡ count_up s n ++ (s + n) ∷ []
 count_push s zero = ap (λ k. k ∷ []) (let z : s ≡ s + 0 = omega arith in z)
 count_push s (suc n) = ap (λ l. s ∷ l) (count_push (suc s) n ∙ ap (λ k. count_up (suc s) n ++ k ∷ []) (let z : suc s + n ≡ s + suc n = omega arith in z))
 

@@ -3,18 +3,24 @@
 
 ghost use Rattle.std.specs.Prelude.{◌≡◌, length};
 
+mod agreeing;
 mod batches;
+mod conversion;
 mod emission;
 mod extremes;
+mod leaving;
+mod looking;
 mod making;
 mod notice;
 mod slots;
+mod states;
 mod taking;
 mod walk;
 
 pub use notice::{FINISHED, ShiftNotice};
 use slots::SlotTable;
 use tables::GroupTable;
+pub use writing::StateOutput;
 
 // The first or last value of each group by ordering keys. State, order and slots hold the same groups.
 // By a rule of the project it holds the three by value beside one another, and says by the original's two flags how it was made.

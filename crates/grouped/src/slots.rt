@@ -1,6 +1,7 @@
 // A slot for each held group: whether it is set.
 ghost use Rattle.std.specs.Prelude.{◌≡◌, ◌-◌, ◌<◌, ◌≤◌, true, false, [], ◌++◌, length, drop, replicate, slice_index_or, slice_set};
 
+use layout::FlagSource;
 use tables::Entries;
 
 // The set flags of the held groups.
@@ -57,5 +58,16 @@ impl SlotTable {
         ensures { self.new.set ≡ slice_set self.old.set group true }
     {
         self.set.set(group, true);
+    }
+}
+
+// The set flags as truth values by group, none of which is missing.
+impl FlagSource for SlotTable {
+    ghost use Rattle.std.specs.Prelude.{slice_get};
+
+    ghost shows = { λ t k. slice_get t.set k };
+
+    fn flag(&self, group: usize) -> Option<bool> {
+        self.set.as_slice().get(group).copied()
     }
 }

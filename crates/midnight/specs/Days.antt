@@ -1,5 +1,5 @@
 -- Days: the end of a day in the words of the book.
---   day_seen   the result of closing a day: a number of groups that left, or a fault
+--   day_seen   the result of closing or saving a day: a number of groups that left, or a fault
 use Rattle.std.specs.Prelude.{ℕ, Ok, Err, Result}
 use Rattle.book.specs.Calls as Calls
 use Rattle.faults.specs.Reported.{fault_seen}

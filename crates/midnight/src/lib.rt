@@ -9,9 +9,12 @@ ghost use Rattle.grouped.specs.Notices.{renumbered};
 ghost use Rattle.grouped.specs.Seen.{to_seen, values_only};
 ghost use Rattle.midnight.specs.Days.{day_seen};
 
+mod saving;
+
 use faults::Fault;
 use grouped::{EmitTo, FirstLastGroupsAccumulator};
 use layout::Output;
+pub use saving::save_day;
 use tables::{RowOrder, ValueState};
 
 // Writes the values of the first groups, drops these, and renumbers the open group numbers; answers how many left.

@@ -1,10 +1,9 @@
 use Rattle.std.proofs.Common.{Ok, ap, ◌∙◌}
 use Rattle.book.specs.Batches.{order_columns}
 use Rattle.checks.specs.Seen.{given_seen}
-use Rattle.faults.proofs.Whole.{placed_whole}
+use Rattle.faults.proofs.Whole.{placed_not, placed_ok, placed_whole}
 use Rattle.faults.specs.declared.Place.TheVariants.{Call}
 use Rattle.faults.specs.declared.Refusal.TheVariants.{Order}
-use Rattle.grouped.proofs.Placing.{placed_not, placed_ok}
 use Rattle.grouped.proofs.Walking.{both_taken}
 use Rattle.grouped.specs.Walk.{ahead, picks}
 use Rattle.grouped.proofs.FirstLastGroupsAccumulator.beats_row.Goals as goal

@@ -1,9 +1,9 @@
 use Rattle.std.proofs.Common.{length, ap, arith}
 use Rattle.std.specs.Option.{option_map}
-use Rattle.faults.proofs.Whole.{placed_whole}
+use Rattle.faults.proofs.Whole.{placed_not, placed_whole}
 use Rattle.faults.specs.declared.Place.TheVariants.{Call}
 use Rattle.faults.specs.declared.Refusal.TheVariants.{State}
-use Rattle.grouped.proofs.Placing.{grow_fine, placed_not}
+use Rattle.grouped.proofs.Placing.{grow_fine}
 use Rattle.grouped.proofs.FirstLastGroupsAccumulator.grow.Goals as goal
 
 pub returns-in_err-located : goal.returns-in_err-located

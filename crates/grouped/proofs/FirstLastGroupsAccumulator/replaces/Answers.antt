@@ -1,10 +1,9 @@
 use Rattle.std.proofs.Common.{[], ◌∷◌, length, get_or, Ok, sym, ap, ◌∙◌, arith}
 use Rattle.book.specs.Batches.{order_columns}
 use Rattle.checks.specs.Seen.{given_seen}
-use Rattle.faults.proofs.Whole.{placed_whole}
+use Rattle.faults.proofs.Whole.{placed_ok, placed_whole}
 use Rattle.faults.specs.declared.Place.TheVariants.{Call}
 use Rattle.faults.specs.declared.Refusal.TheVariants.{Order}
-use Rattle.grouped.proofs.Placing.{placed_ok}
 use Rattle.grouped.proofs.Replacing.{key_held}
 use Rattle.grouped.specs.Accumulators.{making, order_settings}
 use Rattle.grouped.specs.Walk.{ahead, key_of, picks, wins}

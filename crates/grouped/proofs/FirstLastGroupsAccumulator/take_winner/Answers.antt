@@ -1,7 +1,8 @@
 use Rattle.std.proofs.Common.{[], ◌∷◌, length, sym, ◌∙◌, arith}
 use Rattle.book.specs.Batches.{order_columns}
 use Rattle.checks.specs.Seen.{given_seen}
-use Rattle.grouped.proofs.Replacing.{cell_held, done_so, key_held, ok_inj, row_left, row_taken}
+use Rattle.grouped.proofs.Replacing.{cell_held, key_held, ok_inj, row_left, row_taken}
+use Rattle.tables.proofs.Declining.{done_so}
 use Rattle.grouped.specs.Accumulators.{held, making, order_settings, state_settings}
 use Rattle.grouped.proofs.FirstLastGroupsAccumulator.take_winner.Goals as goal
 

@@ -1,5 +1,4 @@
-use Rattle.tables.proofs.Declining.{drop_fine}
-use Rattle.grouped.proofs.Replacing.{done_so}
+use Rattle.tables.proofs.Declining.{done_so, drop_fine}
 use Rattle.grouped.proofs.slots.SlotTable.drop_first.Goals as goal
 
 pub returns : goal.returns

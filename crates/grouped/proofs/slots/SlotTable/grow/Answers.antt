@@ -1,5 +1,5 @@
 use Rattle.grouped.proofs.Placing.{grow_fine}
-use Rattle.grouped.proofs.Replacing.{done_so}
+use Rattle.tables.proofs.Declining.{done_so}
 use Rattle.grouped.proofs.slots.SlotTable.grow.Goals as goal
 
 pub returns : goal.returns

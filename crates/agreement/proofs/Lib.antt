@@ -1,0 +1,4 @@
+pub mod Taken
+pub mod Showing
+pub mod Telling
+pub mod Deciding

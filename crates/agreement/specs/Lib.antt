@@ -1,0 +1,3 @@
+pub mod Passable
+pub mod Deciding
+pub mod Room

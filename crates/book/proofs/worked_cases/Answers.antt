@@ -1,6 +1,0 @@
-use Rattle.std.proofs.Common.{refl}
-use Rattle.book.proofs.Worked.{worked}
-use Rattle.book.proofs.worked_cases.Goals as goal
-
-pub returns : goal.returns
-returns c = record { count = refl; hold = worked.0; bytes = worked.1 }

@@ -1,0 +1,4 @@
+pub mod Rounds
+pub mod Feeding
+pub mod Parting
+pub mod Ending
