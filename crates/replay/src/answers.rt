@@ -1,0 +1,57 @@
+// What is answered, as text.
+use crate::given::Stop;
+use grouped::FINISHED;
+use std::alloc::{AllocError, Global};
+use std::fmt::Write;
+
+// A line that is no command, or that stands where it may not.
+pub fn malformed(heap: Global) -> Result<String, AllocError> {
+    String::from_str(heap, "malformed")
+}
+
+// An accumulator was made.
+pub fn made(heap: Global) -> Result<String, AllocError> {
+    String::from_str(heap, "made")
+}
+
+// A call was taken; its output parts follow.
+pub fn taken(heap: Global) -> Result<String, AllocError> {
+    String::from_str(heap, "ok")
+}
+
+// What a call answers, or that it was declined.
+pub fn settled(heap: Global, answer: Result<String, Stop>) -> Result<String, AllocError> {
+    match answer {
+        Ok(text) => Ok(text),
+        Err(Stop::Declined(why)) => format!(in heap; "declined {why}"),
+        Err(Stop::OutOfMemory) => Err(AllocError),
+    }
+}
+
+// Writes a list of open group numbers.
+fn write_open(text: &mut String, open: &[u32]) -> Result<(), AllocError> {
+    text.push_str("open=[")?;
+    for (i, group) in open.iter().enumerate() {
+        let space = if i == 0 { "" } else { " " };
+        if *group == FINISHED {
+            write!(text, "{space}finished")?;
+        } else {
+            write!(text, "{space}{group}")?;
+        }
+    }
+    text.push_str("]")
+}
+
+// The list of open group numbers.
+pub fn opened(heap: Global, open: &[u32]) -> Result<String, AllocError> {
+    let mut text = String::new(heap);
+    write_open(&mut text, open)?;
+    Ok(text)
+}
+
+// An emission dropped so many groups, and these are open now; its output parts follow.
+pub fn emitted(heap: Global, dropped: u32, open: &[u32]) -> Result<String, AllocError> {
+    let mut text = format!(in heap; "ok dropped={dropped} ")?;
+    write_open(&mut text, open)?;
+    Ok(text)
+}

@@ -1,0 +1,3 @@
+pub mod Wording
+pub mod Chunking
+pub mod Stripping

@@ -1,0 +1,7 @@
+pub mod Words
+pub mod Reading
+pub mod Names
+pub mod Packing
+pub mod Rooms
+pub mod Accumulators
+pub mod Shown

@@ -1,0 +1,43 @@
+// The commands of a scenario.
+ghost use Rattle.std.specs.Prelude.{◌≡◌, ◌∷◌, List, ℕ};
+ghost use Rattle.scenario.specs.Accumulators.{Proper};
+ghost use Rattle.scenario.specs.Names.{command_name};
+ghost use Rattle.scenario.specs.Reading.{Found};
+ghost use Rattle.scenario.specs.Words.{words};
+
+use crate::calls::{Call, read_call};
+use crate::lists::numbers;
+use crate::makings::{Making, read_making};
+use crate::words::Words;
+use crate::{Reads, Unread};
+use std::alloc::Global;
+
+// What a line asks for.
+#[derive(Drop)]
+pub enum Command {
+    Make(Making),
+    Open(Vec<u32>),
+    Call(Call),
+}
+
+// `open [N ..]`
+fn opened(heap: Global, words: &mut Words) -> Result<Vec<u32>, Unread> {
+    let list = numbers(heap, words.needed()?)?;
+    words.ended()?;
+    Ok(list)
+}
+
+// The command of a line, where the accumulator, if there is one, reads these kinds.
+pub fn read(heap: Global, line: &str, reads: Option<Reads>) -> Result<Command, Unread>
+    ensures { Found result (λ command. (more : List (List ℕ)) × (words line.now ≡ command_name command ∷ more) × Proper reads command more) (Unit {0}) }
+{
+    let mut words = Words::of(line);
+    match words.needed()? {
+        "make" => Ok(Command::Make(read_making(&mut words)?)),
+        "open" => Ok(Command::Open(opened(heap, &mut words)?)),
+        name => {
+            let reads = reads.ok_or(Unread::Malformed)?;
+            Ok(Command::Call(read_call(heap, name, words, reads)?))
+        }
+    }
+}

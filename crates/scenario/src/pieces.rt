@@ -1,0 +1,105 @@
+// Columns, as a scenario writes them: by their cells or by their parts.
+ghost use Rattle.std.specs.Prelude.{◌≡◌, ◌≢◌};
+ghost use Rattle.column.specs.declared.Kind.{Kind};
+ghost use Rattle.scenario.specs.Names.{kind_name};
+ghost use Rattle.scenario.specs.Reading.{Told};
+ghost use Rattle.scenario.specs.Shown.{IsColumnOver};
+
+use crate::cells::cells;
+use crate::lists::{between, bytes, bytes_or_none, number, numbers};
+use crate::words::Words;
+use crate::{Reads, Unread};
+use column::{Column, ColumnFault, Kind};
+use std::alloc::Global;
+
+// The parts of a column; no validity bytes: none of its rows is null.
+#[derive(Drop)]
+pub struct Parts {
+    pub kind: u32,
+    pub rows: usize,
+    pub validity: Vec<u8>,
+    pub offsets: Vec<u32>,
+    pub data: Vec<u8>,
+}
+
+impl Parts {
+    // The column over the parts.
+    pub fn column(&self) -> Result<Column<'_>, ColumnFault>
+        ensures { IsColumnOver self.now result }
+    {
+        Column::new(
+            self.kind,
+            self.rows,
+            &self.validity,
+            &self.offsets,
+            &self.data,
+        )
+    }
+}
+
+// The offsets, or no offsets for `none`.
+fn offsets(heap: Global, text: &str) -> Result<Vec<u32>, Unread> {
+    if text == "none" {
+        return Ok(Vec::new(heap));
+    }
+    numbers(heap, text)
+}
+
+// A column by its parts, which stand between braces.
+fn by_parts(heap: Global, text: &str) -> Result<Parts, Unread> {
+    let mut words = Words::of(between(text, '{', '}')?);
+    let kind = number(words.named("kind")?)?;
+    let rows = number(words.named("rows")?)?;
+    let validity = bytes_or_none(heap, words.named("validity")?)?;
+    let offsets = offsets(heap, words.named("offsets")?)?;
+    let data = bytes(heap, words.named("data")?)?;
+    words.ended()?;
+    Ok(Parts {
+        kind,
+        rows,
+        validity,
+        offsets,
+        data,
+    })
+}
+
+// The kind of a name.
+pub(crate) fn kind_named(name: &str) -> Result<Kind, Unread>
+    ensures { Told result (λ kind. name.now ≡ kind_name kind) ((kind : Kind) → name.now ≢ kind_name kind) }
+{
+    match name {
+        "number" => Ok(Kind::Number),
+        "bytes" => Ok(Kind::Bytes),
+        "record" => Ok(Kind::Record),
+        _ => Err(Unread::Malformed),
+    }
+}
+
+// A column: by its parts, or by its cells, which are of the kind that is read unless another is named.
+fn read_column(heap: Global, text: &str, read: Kind) -> Result<Parts, Unread> {
+    if text.starts_with('{') {
+        return by_parts(heap, text);
+    }
+    let (name, items) = text.split_once('[').ok_or(Unread::Malformed)?;
+    let items = items.strip_suffix(']').ok_or(Unread::Malformed)?;
+    let kind = if name.is_empty() {
+        read
+    } else {
+        kind_named(name)?
+    };
+    cells(heap, items, kind)
+}
+
+// A value column.
+pub(crate) fn read_values(heap: Global, text: &str, reads: Reads) -> Result<Parts, Unread> {
+    read_column(heap, text, reads.values)
+}
+
+// The order columns.
+pub(crate) fn read_keys(heap: Global, texts: &[&str], reads: Reads) -> Result<Vec<Parts>, Unread> {
+    let mut keys = Vec::new(heap);
+    for text in texts {
+        keys.push(read_column(heap, text, reads.keys)?)?;
+    }
+    Ok(keys)
+}
