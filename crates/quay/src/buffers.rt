@@ -1,4 +1,4 @@
-// Arrow buffers for the columns of a batch.
+// Arrow buffers for columns of numbers and of truth values.
 use column::{BoolColumn, Column, ColumnFault};
 use layout::{FlagOutput, FlagSource, Output};
 use std::alloc::{AllocError, Global};
@@ -50,21 +50,29 @@ pub struct Flags {
 }
 
 impl Flags {
-    // The buffers of a column that shows the first `rows` truth values.
-    pub fn of<F: FlagSource>(heap: Global, flags: &F, rows: usize) -> Result<Flags, AllocError> {
-        let mut validity = vec![in heap; 0u8; rows.div_ceil(8)]?;
-        let mut bits = vec![in heap; 0u8; rows.div_ceil(8)]?;
-        let mut out = FlagOutput {
-            validity: &mut validity,
-            bits: &mut bits,
-        };
-        // There is room for them.
-        let _ = out.put_flags(flags, rows);
+    // Room for so many truth values.
+    pub fn room(heap: Global, rows: usize) -> Result<Flags, AllocError> {
         Ok(Flags {
             rows,
-            validity,
-            bits,
+            validity: vec![in heap; 0u8; rows.div_ceil(8)]?,
+            bits: vec![in heap; 0u8; rows.div_ceil(8)]?,
         })
+    }
+
+    // The buffers of a column that shows the first `rows` truth values.
+    pub fn of<F: FlagSource>(heap: Global, flags: &F, rows: usize) -> Result<Flags, AllocError> {
+        let mut made = Flags::room(heap, rows)?;
+        // There is room for them.
+        let _ = made.output().put_flags(flags, rows);
+        Ok(made)
+    }
+
+    // Where a column of truth values is written to.
+    pub fn output(&mut self) -> FlagOutput<'_> {
+        FlagOutput {
+            validity: &mut self.validity,
+            bits: &mut self.bits,
+        }
     }
 
     // The column over the buffers.

@@ -1,20 +1,18 @@
 // A day on the quay: events are groups of the stage, rules put rows into them, and midnight lets the finished ones go.
 use crate::buffers::Numbers;
-use crate::rows::{Rows, Stage, group_of};
+use crate::events::Events;
+use crate::picks::pick;
+use crate::rows::Rows;
 use crate::rules::{Match, Rule};
-use grouped::{EmitTo, FINISHED, FirstLastGroupsAccumulator};
+use crate::stages::{Stage, new_stage};
+use grouped::{EmitTo, FINISHED};
 use midnight::close_day;
-use orders::NumberOrder;
-use tables::Sorting;
-use values::NumberValueState;
 
-// The stage, LAST by rank; the group number of each event; how many groups are held; and all matches that were admitted.
-// By a rule of the project the group numbers are a list of numbers, which a shift notice is spent on.
+// The stage, LAST by rank; its events; and all matches that were admitted.
 #[derive(Drop)]
 pub struct Day {
     stage: Stage,
-    open: Vec<u32>,
-    held: u32,
+    events: Events,
     log: Vec<Match>,
 }
 
@@ -43,25 +41,12 @@ impl Reason {
     }
 }
 
-// What the values of an emission say in one row: the rule that won there, if the row is not null.
-fn pick(values: &Numbers, row: usize) -> Option<Rule> {
-    let code = values.column().ok()?.number(row)?;
-    Rule::try_from(code).ok()
-}
-
 impl Day {
     // A day without events.
     pub fn new(rt: &HostRuntime) -> Day {
-        let by_rank = Sorting {
-            descending: false,
-            nulls_first: false,
-        };
-        let order = NumberOrder::new([by_rank; 3], 1);
-        let stage = FirstLastGroupsAccumulator::new(NumberValueState::new(), order, false, false);
         Day {
-            stage,
-            open: Vec::new(rt.alloc()),
-            held: 0,
+            stage: new_stage(),
+            events: Events::none(rt.alloc()),
             log: Vec::new(rt.alloc()),
         }
     }
@@ -69,11 +54,9 @@ impl Day {
     // Opens so many events more, as groups at the end.
     pub fn open_events(&mut self, rt: &HostRuntime, more: u32) -> anyhow::Result<()> {
         for _ in 0..more {
-            let event = self.open.len();
-            let group = self.held;
+            let event = self.events.groups.len();
+            let group = self.events.open()?;
             println!(rt; "  event {event} opens as group {group}")?;
-            self.open.push(group)?;
-            self.held = group.saturating_add(1);
         }
         Ok(())
     }
@@ -83,7 +66,7 @@ impl Day {
         let rule = m.rule;
         let event = m.event;
         let rank = m.rank;
-        let group = group_of(&self.open, event);
+        let group = self.events.group(event);
         let note = if m.holds {
             ""
         } else {
@@ -98,8 +81,8 @@ impl Day {
         for m in matches {
             self.announce(rt, m)?;
         }
-        let rows = Rows::of(rt.alloc(), matches, &self.open)?;
-        if let Err(declined) = rows.update(&mut self.stage, self.held as usize) {
+        let rows = Rows::of(rt.alloc(), matches, &self.events)?;
+        if let Err(declined) = rows.update(&mut self.stage, self.events.held()) {
             println!(rt; "  declined {declined}")?;
             return Ok(());
         }
@@ -130,10 +113,15 @@ impl Day {
 
     // The first groups leave, and the others are renumbered.
     pub fn midnight(&mut self, rt: &HostRuntime, leaving: usize) -> anyhow::Result<()> {
-        let before = self.open.clone()?;
+        let before = self.events.groups.clone()?;
         let mut values = Numbers::room(rt.alloc(), leaving)?;
         let to = EmitTo::First(leaving);
-        let left = close_day(&mut self.stage, to, &mut values.output(), &mut self.open);
+        let left = close_day(
+            &mut self.stage,
+            to,
+            &mut values.output(),
+            &mut self.events.groups,
+        );
         let dropped = match left {
             Ok(dropped) => dropped,
             Err(fault) => {
@@ -141,7 +129,7 @@ impl Day {
                 return Ok(());
             }
         };
-        self.held = self.held.saturating_sub(dropped);
+        self.events.left(dropped);
         for (event, group) in before.iter().enumerate() {
             if *group < dropped {
                 self.explain(rt, event, pick(&values, *group as usize))?;
@@ -152,7 +140,7 @@ impl Day {
 
     // Shows what the group numbers became.
     fn renumbered(&self, rt: &HostRuntime, before: &[u32]) -> anyhow::Result<()> {
-        for (event, (old, new)) in before.iter().zip(self.open.iter()).enumerate() {
+        for (event, (old, new)) in before.iter().zip(self.events.groups.iter()).enumerate() {
             if *old == FINISHED {
                 println!(rt; "  event {event} stays finished")?;
             } else if *new == FINISHED {
