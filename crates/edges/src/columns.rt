@@ -29,11 +29,18 @@ fn flags_made(heap: Global, rows: usize) -> Result<Result<(), u8>, AllocError> {
 fn rows_at_the_limit(rt: HostRuntime) -> Result<(), Fail> {
     let heap = rt.alloc();
     for kind in 1..4u32 {
-        assert_eq!(rt; made(heap, kind, 1024)?, Ok(()), "kind {kind}");
-        assert_eq!(rt; made(heap, kind, 1025)?, Err(2), "kind {kind}");
+        for (rows, answer) in [(1024, Ok(())), (1025, Err(2))] {
+            assert_eq!(rt; made(heap, kind, rows)?, answer, "kind {kind}");
+        }
     }
-    assert_eq!(rt; flags_made(heap, 1024)?, Ok(()));
-    assert_eq!(rt; flags_made(heap, 1025)?, Err(2));
+    Ok(())
+}
+
+#[test]
+fn flags_at_the_limit(rt: HostRuntime) -> Result<(), Fail> {
+    for (rows, answer) in [(1024, Ok(())), (1025, Err(2))] {
+        assert_eq!(rt; flags_made(rt.alloc(), rows)?, answer);
+    }
     Ok(())
 }
 

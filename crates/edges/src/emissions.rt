@@ -52,39 +52,62 @@ fn all(bytes: &[u8], byte: u8) -> bool {
     bytes.iter().all(|b| *b == byte)
 }
 
+// The first groups leave, into new buffers of these lengths: the answer, and whether each byte of the buffers is this one then.
+fn leave_as(
+    heap: Global,
+    stage: &mut Numbers,
+    n: usize,
+    lengths: (usize, usize),
+    byte: u8,
+) -> Result<(Result<u32, u8>, bool), AllocError> {
+    let left = leave(heap, stage, n, lengths.0, lengths.1)?;
+    let all = all(&left.validity, byte) && all(&left.data, byte);
+    Ok((left.answer, all))
+}
+
 // Nine groups need two validity bytes and 72 data bytes; a refusal writes nothing and drops nothing.
 #[test]
 fn outputs_exactly_full_and_one_short(rt: HostRuntime) -> Result<(), Fail> {
-    let heap = rt.alloc();
     let mut stage = numbers();
-    assert_eq!(rt; grow(&mut stage, 1, 9), Ok(()));
-    let left = leave(heap, &mut stage, 9, 1, 72)?;
-    assert_eq!(rt; left.answer, Err(8));
-    assert!(rt; all(&left.validity, 255) && all(&left.data, 255));
-    let left = leave(heap, &mut stage, 9, 2, 71)?;
-    assert_eq!(rt; left.answer, Err(8));
-    assert!(rt; all(&left.validity, 255) && all(&left.data, 255));
-    let left = leave(heap, &mut stage, 9, 2, 72)?;
-    assert_eq!(rt; left.answer, Ok(9));
-    assert!(rt; all(&left.validity, 0) && all(&left.data, 0));
+    assert!(rt; grow(&mut stage, 1, 9).is_ok());
+    for (lengths, answer, byte) in [
+        ((1, 72), Err(8), 255),
+        ((2, 71), Err(8), 255),
+        ((2, 72), Ok(9), 0),
+    ] {
+        let left = leave_as(rt.alloc(), &mut stage, 9, lengths, byte)?;
+        assert_eq!(rt; left, (answer, true));
+    }
     Ok(())
 }
 
-// First(n) above, at and below the groups held; what lies behind the written part is untouched.
+// First(n) above, at and below the groups held.
 #[test]
 fn first_above_below_and_at(rt: HostRuntime) -> Result<(), Fail> {
-    let heap = rt.alloc();
     let mut stage = numbers();
-    assert_eq!(rt; grow(&mut stage, 1, 3), Ok(()));
-    assert_eq!(rt; leave(heap, &mut stage, 4, 1, 32)?.answer, Err(11));
-    let left = leave(heap, &mut stage, 2, 2, 17)?;
-    assert_eq!(rt; left.answer, Ok(2));
-    assert_eq!(rt; left.validity.get(1).copied(), Some(255));
-    assert_eq!(rt; left.data.get(15).copied(), Some(0));
-    assert_eq!(rt; left.data.get(16).copied(), Some(255));
-    assert_eq!(rt; leave(heap, &mut stage, 1, 1, 8)?.answer, Ok(1));
-    assert_eq!(rt; leave(heap, &mut stage, 0, 0, 0)?.answer, Ok(0));
-    assert_eq!(rt; leave(heap, &mut stage, 1, 1, 8)?.answer, Err(11));
+    assert!(rt; grow(&mut stage, 1, 3).is_ok());
+    for (n, answer) in [
+        (4, Err(11)),
+        (2, Ok(2)),
+        (1, Ok(1)),
+        (0, Ok(0)),
+        (1, Err(11)),
+    ] {
+        let left = leave(rt.alloc(), &mut stage, n, 1, 32)?;
+        assert_eq!(rt; left.answer, answer, "first {n}");
+    }
+    Ok(())
+}
+
+// What lies behind the written part is untouched.
+#[test]
+fn nothing_behind_the_written_part(rt: HostRuntime) -> Result<(), Fail> {
+    let mut stage = numbers();
+    assert!(rt; grow(&mut stage, 1, 3).is_ok());
+    let left = leave(rt.alloc(), &mut stage, 2, 2, 17)?;
+    assert!(rt; left.validity.get(1).copied() == Some(255));
+    assert!(rt; left.data.get(15).copied() == Some(0));
+    assert!(rt; left.data.get(16).copied() == Some(255));
     Ok(())
 }
 

@@ -5,21 +5,23 @@ use orders::NumberOrder;
 #[test]
 fn groups_at_the_limit(rt: HostRuntime) {
     let mut stage = numbers();
-    assert_eq!(rt; grow(&mut stage, 1, 257), Err(6));
-    assert_eq!(rt; grow(&mut stage, 1, 256), Ok(()));
-    assert_eq!(rt; grow(&mut stage, 1, 255), Err(10));
-    assert_eq!(rt; grow(&mut stage, 1, 256), Ok(()));
+    let totals = [(257, Err(6)), (256, Ok(())), (255, Err(10)), (256, Ok(()))];
+    for (total, answer) in totals {
+        assert_eq!(rt; grow(&mut stage, 1, total), answer, "total {total}");
+    }
 }
 
 #[test]
 fn order_columns_at_the_limit(rt: HostRuntime) {
     let mut stage = numbers();
-    assert_eq!(rt; grow(&mut stage, 0, 1), Err(4));
-    assert_eq!(rt; grow(&mut stage, 2, 1), Err(4));
-    assert_eq!(rt; grow(&mut stage, 4, 1), Err(4));
-    assert_eq!(rt; grow(&mut stage, 1, 1), Ok(()));
-    assert!(rt; NumberOrder::check(0).is_err());
-    assert!(rt; NumberOrder::check(1).is_ok());
-    assert!(rt; NumberOrder::check(3).is_ok());
-    assert!(rt; NumberOrder::check(4).is_err());
+    for (count, answer) in [(0, Err(4)), (2, Err(4)), (4, Err(4)), (1, Ok(()))] {
+        assert_eq!(rt; grow(&mut stage, count, 1), answer, "count {count}");
+    }
+}
+
+#[test]
+fn order_columns_of_an_order(rt: HostRuntime) {
+    for (count, fits) in [(0, false), (1, true), (3, true), (4, false)] {
+        assert_eq!(rt; NumberOrder::check(count).is_ok(), fits, "count {count}");
+    }
 }

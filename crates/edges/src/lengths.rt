@@ -20,9 +20,13 @@ fn lengths_at_the_limit(rt: HostRuntime) {
         validity: &[0],
         ..long
     };
-    assert_eq!(rt; take(fits, fits), Ok(()));
-    assert_eq!(rt; take(long, fits), Err((5, 2, 0, 0)));
-    assert_eq!(rt; take(fits, long), Err((5, 3, 1, 0)));
-    assert_eq!(rt; take(long, long), Err((5, 2, 0, 0)));
-    assert_eq!(rt; take(null, null), Ok(()));
+    for (value, key, answer) in [
+        (fits, fits, Ok(())),
+        (long, fits, Err((5, 2, 0, 0))),
+        (fits, long, Err((5, 3, 1, 0))),
+        (long, long, Err((5, 2, 0, 0))),
+        (null, null, Ok(())),
+    ] {
+        assert_eq!(rt; take(value, key), answer);
+    }
 }

@@ -1,4 +1,4 @@
-// The limits of the stage at their edges, tested on the real calls.
+// The limits of the stage, and the lines of scenarios, at their edges, tested on the real calls.
 #![tactic(auto)]
 
 #[cfg(test)]
@@ -9,6 +9,8 @@ mod emissions;
 mod groups;
 #[cfg(test)]
 mod lengths;
+#[cfg(test)]
+mod lines;
 #[cfg(test)]
 mod stages;
 #[cfg(test)]

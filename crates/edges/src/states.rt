@@ -90,6 +90,33 @@ impl Saved {
     }
 }
 
+// Whether the state of the nine groups of `nine` was written.
+fn is_nine(saved: &Saved) -> bool {
+    saved.value_validity.as_slice() == [1, 0].as_slice()
+        && saved.value_offsets.as_slice() == [0, 4, 4, 4, 4, 4, 4, 4, 4, 4].as_slice()
+        && saved.value_data.as_slice() == b"quay".as_slice()
+        && saved.key_validity.as_slice() == [1, 0].as_slice()
+        && saved.key_offsets.as_slice() == [0, 1, 1, 1, 1, 1, 1, 1, 1, 1].as_slice()
+        && saved.key_data.as_slice() == b"b".as_slice()
+        && saved.flag_validity.as_slice() == [255, 1].as_slice()
+        && saved.flag_bits.as_slice() == [1, 0].as_slice()
+}
+
+// What a state answers where a part is one short, and whether nothing is written then.
+fn save_short(
+    heap: Global,
+    stage: &mut Texts,
+    part: usize,
+) -> Result<(Result<u32, Refused>, bool), AllocError> {
+    let mut sizes = NEEDED;
+    if let Some(size) = sizes.get_mut(part) {
+        *size = size.saturating_sub(1);
+    }
+    let mut saved = Saved::room(heap, sizes)?;
+    let left = saved.save(stage, EmitTo::All);
+    Ok((left, saved.is_untouched()))
+}
+
 // The buffers of a column that the order does not read.
 fn nothing<'a>() -> Output<'a> {
     Output {
@@ -99,10 +126,9 @@ fn nothing<'a>() -> Output<'a> {
     }
 }
 
-// Each part one short declines with its layer and its column, and the state that is exactly full has every byte.
+// Each part one short declines with its layer and its column.
 #[test]
-fn parts_one_short_and_exactly_full(rt: HostRuntime) -> Result<(), Fail> {
-    let heap = rt.alloc();
+fn parts_one_short(rt: HostRuntime) -> Result<(), Fail> {
     let mut stage = nine().expect(&rt, "the row is taken");
     let places = [
         (2, 0),
@@ -115,29 +141,19 @@ fn parts_one_short_and_exactly_full(rt: HostRuntime) -> Result<(), Fail> {
         (4, 4),
     ];
     for (part, (layer, column)) in places.iter().copied().enumerate() {
-        let mut sizes = NEEDED;
-        sizes[part] -= 1;
-        let mut saved = Saved::room(heap, sizes)?;
-        let left = saved.save(&mut stage, EmitTo::All);
-        assert_eq!(rt; left, Err((8, layer, column, 0)), "part {part}");
-        assert!(rt; saved.is_untouched(), "part {part}");
+        let left = save_short(rt.alloc(), &mut stage, part)?;
+        assert_eq!(rt; left, (Err((8, layer, column, 0)), true), "part {part}");
     }
-    let mut saved = Saved::room(heap, NEEDED)?;
-    assert_eq!(rt; saved.save(&mut stage, EmitTo::All), Ok(9));
-    assert_eq!(rt; saved.value_validity.as_slice(), [1, 0].as_slice());
-    assert_eq!(rt;
-        saved.value_offsets.as_slice(),
-        [0, 4, 4, 4, 4, 4, 4, 4, 4, 4].as_slice()
-    );
-    assert_eq!(rt; saved.value_data.as_slice(), b"quay".as_slice());
-    assert_eq!(rt; saved.key_validity.as_slice(), [1, 0].as_slice());
-    assert_eq!(rt;
-        saved.key_offsets.as_slice(),
-        [0, 1, 1, 1, 1, 1, 1, 1, 1, 1].as_slice()
-    );
-    assert_eq!(rt; saved.key_data.as_slice(), b"b".as_slice());
-    assert_eq!(rt; saved.flag_validity.as_slice(), [255, 1].as_slice());
-    assert_eq!(rt; saved.flag_bits.as_slice(), [1, 0].as_slice());
+    Ok(())
+}
+
+// The state that is exactly full has every byte.
+#[test]
+fn parts_exactly_full(rt: HostRuntime) -> Result<(), Fail> {
+    let mut stage = nine().expect(&rt, "the row is taken");
+    let mut saved = Saved::room(rt.alloc(), NEEDED)?;
+    assert!(rt; saved.save(&mut stage, EmitTo::All) == Ok(9));
+    assert!(rt; is_nine(&saved));
     Ok(())
 }
 
@@ -146,25 +162,26 @@ fn parts_one_short_and_exactly_full(rt: HostRuntime) -> Result<(), Fail> {
 fn states_of_no_group(rt: HostRuntime) -> Result<(), Fail> {
     let mut saved = Saved::room(rt.alloc(), NEEDED)?;
     let mut empty = texts();
-    assert_eq!(rt; saved.save(&mut empty, EmitTo::All), Err((12, 4, 9, 0)));
-    assert_eq!(rt;
-        saved.save(&mut empty, EmitTo::First(0)),
-        Err((12, 4, 9, 0))
-    );
-    assert_eq!(rt;
-        saved.save(&mut empty, EmitTo::First(1)),
-        Err((11, 4, 9, 0))
-    );
-    let mut stage = nine().expect(&rt, "the row is taken");
-    assert_eq!(rt;
-        saved.save(&mut stage, EmitTo::First(0)),
-        Err((12, 4, 9, 0))
-    );
-    assert_eq!(rt;
-        saved.save(&mut stage, EmitTo::First(10)),
-        Err((11, 4, 9, 0))
-    );
+    for (leaving, number) in [
+        (EmitTo::All, 12),
+        (EmitTo::First(0), 12),
+        (EmitTo::First(1), 11),
+    ] {
+        assert_eq!(rt; saved.save(&mut empty, leaving), Err((number, 4, 9, 0)));
+    }
     assert!(rt; saved.is_untouched());
-    assert_eq!(rt; saved.save(&mut stage, EmitTo::First(9)), Ok(9));
+    Ok(())
+}
+
+// The same where nine groups are held.
+#[test]
+fn states_of_other_groups(rt: HostRuntime) -> Result<(), Fail> {
+    let mut saved = Saved::room(rt.alloc(), NEEDED)?;
+    let mut stage = nine().expect(&rt, "the row is taken");
+    for (leaving, number) in [(EmitTo::First(0), 12), (EmitTo::First(10), 11)] {
+        assert_eq!(rt; saved.save(&mut stage, leaving), Err((number, 4, 9, 0)));
+    }
+    assert!(rt; saved.is_untouched());
+    assert!(rt; saved.save(&mut stage, EmitTo::First(9)) == Ok(9));
     Ok(())
 }

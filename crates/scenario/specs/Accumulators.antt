@@ -3,11 +3,11 @@
 --   is_alone       an accumulator without groups
 --   reads_of       what an accumulator reads, by its making
 --   options_text   the first so many options, parted by commas
---   Writes         a text writes an order, of one to three keys
+--   Writes         a text writes an order: of text, or of the first one to three of its three options for numbers
 --   pre_ordered    whether rows come in order, which groups' do not
 --   Makes          these words, behind a command's, ask for an accumulator made so
 --   Proper         these words, behind a command's, ask for what is made so, or for a call where an accumulator is made
-use Rattle.std.specs.Prelude.{◌≡◌, ℕ, ◌≤◌, Bool, true, false, List, ◌∷◌, ◌++◌, take, map, codes, Option, IsSome}
+use Rattle.std.specs.Prelude.{◌≡◌, ℕ, ◌≤◌, Bool, true, false, List, ◌∷◌, ◌++◌, take, map, length, codes, Option, IsSome}
 use Rattle.std.specs.List.{join_with_byte}
 use Rattle.column.specs.declared.Kind.{Kind}
 use Rattle.column.specs.declared.Kind.TheVariants as kind
@@ -41,7 +41,7 @@ abbrev pub options_text : List Sorting → ℕ → List ℕ
 options_text sorts count = join_with_byte 44 (map sorting_name (take count sorts))
 
 abbrev pub Writes : Order → List ℕ → Type 0
-Writes (Numbers sorts count) t = (1 ≤ count) × (count ≤ 3) × (t ≡ codes "number:" ++ options_text sorts count)
+Writes (Numbers sorts count) t = (length sorts ≡ 3) × (1 ≤ count) × (count ≤ 3) × (t ≡ codes "number:" ++ options_text sorts count)
 Writes (Text sort) t = t ≡ codes "text:" ++ sorting_name sort
 
 abbrev pub pre_ordered : Form → Bool

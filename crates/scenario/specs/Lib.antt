@@ -5,3 +5,4 @@ pub mod Packing
 pub mod Rooms
 pub mod Accumulators
 pub mod Shown
+pub mod Plain

@@ -9,7 +9,6 @@
 --   buffer_name   a buffer of a column
 --   is_flags, has_buffer   the column of flags, and which buffers an output column has
 --   part_name     an output part
---   single_name, call_name   the first word of a call's line, without groups and with them
 --   single_name, call_name   the first word of a call's line, without groups and with them or without
 --   command_name  the first word of a command's line
 use Rattle.std.specs.Prelude.{ℕ, Bool, true, false, not, List, [], ◌∷◌, ◌++◌, codes}

@@ -1,11 +1,13 @@
 // The calls of an accumulator without groups.
-ghost use Rattle.std.specs.Prelude.{◌≡◌, codes};
+ghost use Rattle.std.specs.Prelude.{◌≡◌, Ok, codes};
 ghost use Rattle.scenario.specs.Names.{single_name};
+ghost use Rattle.scenario.specs.Plain.{Fieldless, alone_evaluate, alone_state, PlainAlone};
 ghost use Rattle.scenario.specs.Reading.{Found};
+ghost use Rattle.scenario.specs.Words.{words as words_of};
 
 use crate::calls::{Columns, emission, read_columns};
 use crate::fields::Fields;
-use crate::marking::{Marks, read_marks};
+use crate::marking::{Marks, read_flags};
 use crate::rooms::Room;
 use crate::words::Words;
 use crate::{Reads, Unread};
@@ -21,46 +23,64 @@ pub enum SingleCall {
 }
 
 // `update values=COLUMN key=COLUMN ..`
-fn update(heap: Global, fields: Fields, reads: Reads) -> Result<SingleCall, Unread>
+fn update(heap: Global, fields: &Fields, reads: Reads) -> Result<SingleCall, Unread>
     ensures { Found result (λ call. single_name call ≡ codes "update") (Unit {0}) }
 {
-    let Fields {
-        values: Some(values),
-        keys,
-        groups: None,
-        total: None,
-        filter: None,
-        flags: None,
-        room: None,
-    } = fields
-    else {
+    if fields.has_groups() || fields.has_marks() || fields.room.is_some() {
         return Err(Unread::Malformed);
-    };
+    }
     Ok(SingleCall::Update {
-        columns: read_columns(heap, values, &keys, reads)?,
+        columns: read_columns(heap, fields, reads)?,
     })
 }
 
 // `merge values=COLUMN key=COLUMN .. flags=MARKS`
-fn merge(heap: Global, fields: Fields, reads: Reads) -> Result<SingleCall, Unread>
+fn merge(heap: Global, fields: &Fields, reads: Reads) -> Result<SingleCall, Unread>
     ensures { Found result (λ call. single_name call ≡ codes "merge") (Unit {0}) }
 {
-    let Fields {
-        values: Some(values),
-        keys,
-        groups: None,
-        total: None,
-        filter: None,
-        flags: Some(flags),
-        room: None,
-    } = fields
-    else {
+    if fields.has_groups() || fields.filter.is_some() || fields.room.is_some() {
         return Err(Unread::Malformed);
-    };
+    }
+    let columns = read_columns(heap, fields, reads)?;
     Ok(SingleCall::Merge {
-        columns: read_columns(heap, values, &keys, reads)?,
-        flags: read_marks(heap, flags)?,
+        columns,
+        flags: read_flags(heap, fields.flags)?,
     })
+}
+
+// `evaluate [room=ROOM]`
+fn evaluate(fields: &Fields) -> Result<SingleCall, Unread>
+    ensures name { Found result (λ call. single_name call ≡ codes "evaluate") (Unit {0}) }
+    ensures plain { Fieldless fields.now → result ≡ Ok alone_evaluate }
+{
+    Ok(SingleCall::Evaluate {
+        room: emission(fields)?,
+    })
+}
+
+// `state [room=ROOM]`
+fn state(fields: &Fields) -> Result<SingleCall, Unread>
+    ensures name { Found result (λ call. single_name call ≡ codes "state") (Unit {0}) }
+    ensures plain { Fieldless fields.now → result ≡ Ok alone_state }
+{
+    Ok(SingleCall::State {
+        room: emission(fields)?,
+    })
+}
+
+// A call by its name and its fields.
+fn read_named(heap: Global, name: &str, fields: &Fields, reads: Reads) -> Result<SingleCall, Unread>
+    ensures name { Found result (λ call. name.now ≡ single_name call) (Unit {0}) }
+    ensures evaluate { Fieldless fields.now → name.now ≡ codes "evaluate" → result ≡ Ok alone_evaluate }
+    ensures state { Fieldless fields.now → name.now ≡ codes "state" → result ≡ Ok alone_state }
+{
+    match name {
+        "update" => update(heap, fields, reads),
+        "merge" => merge(heap, fields, reads),
+        "evaluate" => evaluate(fields),
+        "state" => state(fields),
+        _ => Err(Unread::Malformed),
+    }
 }
 
 // A call by its name and the words behind it.
@@ -70,17 +90,8 @@ pub(crate) fn read_single(
     words: Words,
     reads: Reads,
 ) -> Result<SingleCall, Unread>
-    ensures { Found result (λ call. name.now ≡ single_name call) (Unit {0}) }
+    ensures name { Found result (λ call. name.now ≡ single_name call) (Unit {0}) }
+    ensures plain { PlainAlone name.now (words_of words.entry.rest.now) result }
 {
-    match name {
-        "update" => update(heap, Fields::of(heap, words)?, reads),
-        "merge" => merge(heap, Fields::of(heap, words)?, reads),
-        "evaluate" => Ok(SingleCall::Evaluate {
-            room: emission(Fields::of(heap, words)?)?,
-        }),
-        "state" => Ok(SingleCall::State {
-            room: emission(Fields::of(heap, words)?)?,
-        }),
-        _ => Err(Unread::Malformed),
-    }
+    read_named(heap, name, &Fields::of(heap, words)?, reads)
 }

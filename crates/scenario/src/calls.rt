@@ -1,12 +1,16 @@
 // The calls of an accumulator.
-ghost use Rattle.std.specs.Prelude.{◌≡◌, codes};
+ghost use Rattle.std.specs.Prelude.{◌≡◌, Ok, false, codes};
 ghost use Rattle.scenario.specs.Names.{call_name};
+ghost use Rattle.scenario.specs.declared.calls.Leaving.TheVariants.{All};
+ghost use Rattle.scenario.specs.declared.rooms.Room.TheVariants.{Exact};
+ghost use Rattle.scenario.specs.Plain.{Fieldless, every, evaluate_of, state_of, Plain};
 ghost use Rattle.scenario.specs.Reading.{Found};
+ghost use Rattle.scenario.specs.Words.{words as words_of};
 
 use crate::alone::{SingleCall, read_single};
 use crate::fields::Fields;
 use crate::lists::{number, numbers};
-use crate::marking::{Marks, read_filter, read_marks};
+use crate::marking::{Marks, read_filter, read_flags};
 use crate::pieces::{Parts, read_keys, read_values};
 use crate::rooms::{Room, read_room};
 use crate::words::Words;
@@ -62,146 +66,159 @@ pub enum Call {
     Single(SingleCall),
 }
 
-// Columns, by their texts.
-pub(crate) fn read_columns(
-    heap: Global,
-    value: &str,
-    orders: &[&str],
-    reads: Reads,
-) -> Result<Columns, Unread> {
+// The columns of some fields.
+pub(crate) fn read_columns(heap: Global, fields: &Fields, reads: Reads) -> Result<Columns, Unread> {
+    let value = fields.values.ok_or(Unread::Malformed)?;
+    let values = read_values(heap, value, reads)?;
     Ok(Columns {
-        values: read_values(heap, value, reads)?,
-        keys: read_keys(heap, orders, reads)?,
+        values,
+        keys: read_keys(heap, &fields.keys, reads)?,
+    })
+}
+
+// The group indices and the total number of groups of some fields.
+fn read_groups(heap: Global, fields: &Fields) -> Result<(Vec<usize>, usize), Unread> {
+    let total = number(fields.total.ok_or(Unread::Malformed)?)?;
+    let groups = numbers(heap, fields.groups.ok_or(Unread::Malformed)?)?;
+    Ok((groups, total))
+}
+
+// The rows of some fields.
+fn read_batch(heap: Global, fields: &Fields, reads: Reads) -> Result<Batch, Unread> {
+    let (groups, total) = read_groups(heap, fields)?;
+    Ok(Batch {
+        columns: read_columns(heap, fields, reads)?,
+        groups,
+        total,
     })
 }
 
 // `update values=COLUMN key=COLUMN .. groups=[N ..] total=N [filter=MARKS]`
-fn update(heap: Global, fields: Fields, reads: Reads) -> Result<Call, Unread>
+fn update(heap: Global, fields: &Fields, reads: Reads) -> Result<Call, Unread>
     ensures { Found result (λ call. call_name call ≡ codes "update") (Unit {0}) }
 {
-    let Fields {
-        values: Some(values),
-        keys,
-        groups: Some(groups),
-        total: Some(total),
-        filter: marks,
-        flags: None,
-        room: None,
-    } = fields
-    else {
+    if fields.flags.is_some() || fields.room.is_some() {
         return Err(Unread::Malformed);
-    };
+    }
+    let batch = read_batch(heap, fields, reads)?;
     Ok(Call::Update {
-        batch: Batch {
-            columns: read_columns(heap, values, &keys, reads)?,
-            groups: numbers(heap, groups)?,
-            total: number(total)?,
-        },
-        filter: read_filter(heap, marks)?,
+        batch,
+        filter: read_filter(heap, fields.filter)?,
     })
 }
 
 // `merge values=COLUMN key=COLUMN .. groups=[N ..] total=N flags=MARKS`
-fn merge(heap: Global, fields: Fields, reads: Reads) -> Result<Call, Unread>
+fn merge(heap: Global, fields: &Fields, reads: Reads) -> Result<Call, Unread>
     ensures { Found result (λ call. call_name call ≡ codes "merge") (Unit {0}) }
 {
-    let Fields {
-        values: Some(values),
-        keys,
-        groups: Some(groups),
-        total: Some(total),
-        filter: None,
-        flags: Some(flags),
-        room: None,
-    } = fields
-    else {
+    if fields.filter.is_some() || fields.room.is_some() {
         return Err(Unread::Malformed);
-    };
+    }
+    let batch = read_batch(heap, fields, reads)?;
     Ok(Call::Merge {
-        batch: Batch {
-            columns: read_columns(heap, values, &keys, reads)?,
-            groups: numbers(heap, groups)?,
-            total: number(total)?,
-        },
-        flags: read_marks(heap, flags)?,
+        batch,
+        flags: read_flags(heap, fields.flags)?,
     })
 }
 
 // `convert values=COLUMN key=COLUMN .. [filter=MARKS] [room=ROOM]`
-fn convert(heap: Global, fields: Fields, reads: Reads) -> Result<Call, Unread>
+fn convert(heap: Global, fields: &Fields, reads: Reads) -> Result<Call, Unread>
     ensures { Found result (λ call. call_name call ≡ codes "convert") (Unit {0}) }
 {
-    let Fields {
-        values: Some(values),
-        keys,
-        groups: None,
-        total: None,
-        filter: marks,
-        flags: None,
-        room: size,
-    } = fields
-    else {
+    if fields.has_groups() || fields.flags.is_some() {
         return Err(Unread::Malformed);
-    };
+    }
+    let room = read_room(fields.room)?;
+    let columns = read_columns(heap, fields, reads)?;
     Ok(Call::Convert {
-        columns: read_columns(heap, values, &keys, reads)?,
-        filter: read_filter(heap, marks)?,
-        room: read_room(size)?,
+        columns,
+        filter: read_filter(heap, fields.filter)?,
+        room,
     })
 }
 
 // How many groups leave.
-fn read_leaving(text: &str) -> Result<Leaving, Unread> {
+fn read_leaving(text: &str) -> Result<Leaving, Unread>
+    ensures { text.now ≡ codes "all" → result ≡ Ok All }
+{
     if text == "all" {
         return Ok(Leaving::All);
     }
     Ok(Leaving::First(number(text)?))
 }
 
-// The room of an emission, `all|N [room=ROOM]` behind the count of groups: it has no other field.
-pub(crate) fn emission(fields: Fields) -> Result<Room, Unread> {
-    let Fields {
-        values: None,
-        keys,
-        groups: None,
-        total: None,
-        filter: None,
-        flags: None,
-        room: size,
-    } = fields
-    else {
-        return Err(Unread::Malformed);
-    };
-    if !keys.is_empty() {
+// The room of an emission, which has no other field.
+pub(crate) fn emission(fields: &Fields) -> Result<Room, Unread>
+    ensures { Fieldless fields.now → result ≡ Ok Exact }
+{
+    if fields.has_columns() || fields.has_groups() || fields.has_marks() {
         return Err(Unread::Malformed);
     }
-    read_room(size)
+    read_room(fields.room)
+}
+
+// The groups that leave, and the room for them: `all|N [room=ROOM]`
+fn read_emission(heap: Global, mut words: Words) -> Result<(Leaving, Room), Unread>
+    ensures { words_of words.entry.rest.now ≡ every false → result ≡ Ok (All, Exact) }
+{
+    let leaving = read_leaving(words.needed()?)?;
+    Ok((leaving, emission(&Fields::of(heap, words)?)?))
+}
+
+// `evaluate all|N [room=ROOM]`
+fn evaluate(heap: Global, words: Words) -> Result<Call, Unread>
+    ensures name { Found result (λ call. call_name call ≡ codes "evaluate") (Unit {0}) }
+    ensures plain { words_of words.entry.rest.now ≡ every false → result ≡ Ok (evaluate_of false) }
+{
+    let (leaving, room) = read_emission(heap, words)?;
+    Ok(Call::Evaluate { leaving, room })
+}
+
+// `state all|N [room=ROOM]`
+fn state(heap: Global, words: Words) -> Result<Call, Unread>
+    ensures name { Found result (λ call. call_name call ≡ codes "state") (Unit {0}) }
+    ensures plain { words_of words.entry.rest.now ≡ every false → result ≡ Ok (state_of false) }
+{
+    let (leaving, room) = read_emission(heap, words)?;
+    Ok(Call::State { leaving, room })
+}
+
+// A call of rows by its name and its fields.
+fn read_rows(heap: Global, name: &str, fields: &Fields, reads: Reads) -> Result<Call, Unread>
+    ensures { Found result (λ call. name.now ≡ call_name call) (Unit {0}) }
+{
+    match name {
+        "update" => update(heap, fields, reads),
+        "merge" => merge(heap, fields, reads),
+        "convert" => convert(heap, fields, reads),
+        _ => Err(Unread::Malformed),
+    }
+}
+
+// A call of groups by its name and the words behind it.
+fn read_grouped(heap: Global, name: &str, words: Words, reads: Reads) -> Result<Call, Unread>
+    ensures name { Found result (λ call. name.now ≡ call_name call) (Unit {0}) }
+    ensures plain { Plain false name.now (words_of words.entry.rest.now) result }
+{
+    match name {
+        "evaluate" => evaluate(heap, words),
+        "state" => state(heap, words),
+        _ => read_rows(heap, name, &Fields::of(heap, words)?, reads),
+    }
 }
 
 // A call by its name and the words behind it.
 pub(crate) fn read_call(
     heap: Global,
     name: &str,
-    mut words: Words,
+    words: Words,
     reads: Reads,
 ) -> Result<Call, Unread>
-    ensures { Found result (λ call. name.now ≡ call_name call) (Unit {0}) }
+    ensures name { Found result (λ call. name.now ≡ call_name call) (Unit {0}) }
+    ensures plain { Plain reads.alone name.now (words_of words.entry.rest.now) result }
 {
     if reads.alone {
         return Ok(Call::Single(read_single(heap, name, words, reads)?));
     }
-    match name {
-        "update" => update(heap, Fields::of(heap, words)?, reads),
-        "merge" => merge(heap, Fields::of(heap, words)?, reads),
-        "convert" => convert(heap, Fields::of(heap, words)?, reads),
-        "evaluate" => Ok(Call::Evaluate {
-            leaving: read_leaving(words.needed()?)?,
-            room: emission(Fields::of(heap, words)?)?,
-        }),
-        "state" => Ok(Call::State {
-            leaving: read_leaving(words.needed()?)?,
-            room: emission(Fields::of(heap, words)?)?,
-        }),
-        _ => Err(Unread::Malformed),
-    }
+    read_grouped(heap, name, words, reads)
 }

@@ -1,7 +1,9 @@
 // The commands of a scenario.
-ghost use Rattle.std.specs.Prelude.{◌≡◌, ◌∷◌, List, ℕ};
-ghost use Rattle.scenario.specs.Accumulators.{Proper};
+ghost use Rattle.std.specs.Prelude.{◌≡◌, ◌∷◌, List, ℕ, IsOk, codes};
+ghost use Rattle.scenario.specs.declared.makings.Making.{Making};
+ghost use Rattle.scenario.specs.Accumulators.{Makes, Proper};
 ghost use Rattle.scenario.specs.Names.{command_name};
+ghost use Rattle.scenario.specs.Plain.{Emits};
 ghost use Rattle.scenario.specs.Reading.{Found};
 ghost use Rattle.scenario.specs.Words.{words};
 
@@ -29,7 +31,9 @@ fn opened(heap: Global, words: &mut Words) -> Result<Vec<u32>, Unread> {
 
 // The command of a line, where the accumulator, if there is one, reads these kinds.
 pub fn read(heap: Global, line: &str, reads: Option<Reads>) -> Result<Command, Unread>
-    ensures { Found result (λ command. (more : List (List ℕ)) × (words line.now ≡ command_name command ∷ more) × Proper reads command more) (Unit {0}) }
+    ensures read { Found result (λ command. (more : List (List ℕ)) × (words line.now ≡ command_name command ∷ more) × Proper reads command more) (Unit {0}) }
+    ensures makes { (making : Making) → (more : List (List ℕ)) → words line.now ≡ codes "make" ∷ more → Makes making more → IsOk result }
+    ensures emits { Emits reads (words line.now) result }
 {
     let mut words = Words::of(line);
     match words.needed()? {

@@ -1,6 +1,9 @@
 // The fields of a call, in any order.
-ghost use Rattle.std.specs.Prelude.{◌≡◌, IsSome, is_ok, if◌then◌else◌};
+ghost use Rattle.std.specs.Prelude.{◌≡◌, ◌==◌, ◌||◌, not, length, [], IsSome, IsOkAnd, is_ok, if◌then◌else◌};
+ghost use Rattle.std.specs.Option.{is_some};
+ghost use Rattle.scenario.specs.Plain.{Fieldless};
 ghost use Rattle.scenario.specs.Reading.{Told};
+ghost use Rattle.scenario.specs.Words.{words as words_of};
 
 use crate::Unread;
 use crate::words::Words;
@@ -32,7 +35,9 @@ fn fill<'a>(place: &mut Option<&'a str>, text: &'a str) -> Result<(), Unread>
 
 impl<'a> Fields<'a> {
     // No field.
-    fn none(heap: Global) -> Fields<'a> {
+    fn none(heap: Global) -> Fields<'a>
+        ensures { Fieldless result }
+    {
         Fields {
             values: None,
             keys: Vec::new(heap),
@@ -44,27 +49,57 @@ impl<'a> Fields<'a> {
         }
     }
 
-    // Takes a field in.
-    fn put(&mut self, word: &'a str) -> Result<(), Unread> {
-        let (name, text) = word.split_once('=').ok_or(Unread::Malformed)?;
+    // Where the text of a field of this name is put, of which there is one at most.
+    fn place(&mut self, name: &str) -> Result<&mut Option<&'a str>, Unread> {
         match name {
-            "values" => fill(&mut self.values, text),
-            "key" => Ok(self.keys.push(text)?),
-            "groups" => fill(&mut self.groups, text),
-            "total" => fill(&mut self.total, text),
-            "filter" => fill(&mut self.filter, text),
-            "flags" => fill(&mut self.flags, text),
-            "room" => fill(&mut self.room, text),
+            "values" => Ok(&mut self.values),
+            "groups" => Ok(&mut self.groups),
+            "total" => Ok(&mut self.total),
+            "filter" => Ok(&mut self.filter),
+            "flags" => Ok(&mut self.flags),
+            "room" => Ok(&mut self.room),
             _ => Err(Unread::Malformed),
         }
     }
 
+    // Takes a field in.
+    fn put(&mut self, word: &'a str) -> Result<(), Unread> {
+        let (name, text) = word.split_once('=').ok_or(Unread::Malformed)?;
+        if name == "key" {
+            return Ok(self.keys.push(text)?);
+        }
+        fill(self.place(name)?, text)
+    }
+
     // The fields that some words are.
-    pub(crate) fn of(heap: Global, words: Words<'a>) -> Result<Fields<'a>, Unread> {
+    pub(crate) fn of(heap: Global, words: Words<'a>) -> Result<Fields<'a>, Unread>
+        ensures { words_of words.entry.rest.now ≡ [] → IsOkAnd result Fieldless }
+    {
         let mut fields = Fields::none(heap);
         for word in words {
             fields.put(word)?;
         }
         Ok(fields)
+    }
+
+    // Whether there is a field that only rows of groups have.
+    pub(crate) fn has_groups(&self) -> bool
+        ensures { result ≡ (is_some self.now.groups || is_some self.now.total) }
+    {
+        self.groups.is_some() || self.total.is_some()
+    }
+
+    // Whether there is a field of columns.
+    pub(crate) fn has_columns(&self) -> bool
+        ensures { result ≡ (is_some self.now.values || not (length self.now.keys.items == 0)) }
+    {
+        self.values.is_some() || !self.keys.is_empty()
+    }
+
+    // Whether there is a field of truth values.
+    pub(crate) fn has_marks(&self) -> bool
+        ensures { result ≡ (is_some self.now.filter || is_some self.now.flags) }
+    {
+        self.filter.is_some() || self.flags.is_some()
     }
 }

@@ -60,6 +60,3 @@ impl<T: Drop> From<AllocFailed<T>> for Unread {
         Unread::OutOfMemory
     }
 }
-
-#[cfg(test)]
-mod tests;

@@ -55,6 +55,24 @@ pub(crate) fn bytes_or_none(heap: Global, text: &str) -> Result<Vec<u8>, Unread>
     bytes(heap, text)
 }
 
+// The number that the next field is, which has to have the name.
+pub(crate) fn number_named<T: FromStr>(words: &mut Words, name: &str) -> Result<T, Unread>
+where
+    T::Err: Drop,
+{
+    number(words.named(name)?)
+}
+
+// The bytes that the next field is, which has to have the name.
+pub(crate) fn bytes_named(heap: Global, words: &mut Words, name: &str) -> Result<Vec<u8>, Unread> {
+    bytes(heap, words.named(name)?)
+}
+
+// The validity bytes that the next field is.
+pub(crate) fn validity_named(heap: Global, words: &mut Words) -> Result<Vec<u8>, Unread> {
+    bytes_or_none(heap, words.named("validity")?)
+}
+
 // What stands between two brackets that begin and end a text.
 pub(crate) fn between(text: &str, first: char, last: char) -> Result<&str, Unread>
     ensures { Told result (λ inner. text.now ≡ enclosed (encode_utf8 first) (encode_utf8 last) inner.now) ((inner : List ℕ) → text.now ≢ enclosed (encode_utf8 first) (encode_utf8 last) inner) }

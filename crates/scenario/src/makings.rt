@@ -1,6 +1,9 @@
 // How an accumulator is made.
 ghost use Rattle.std.specs.Prelude.{◌≡◌, ◌≢◌, ◌++◌, Bool, codes};
 ghost use Rattle.tables.specs.declared.Sorting.{Sorting};
+ghost use Rattle.scenario.specs.declared.makings.Form.{Form};
+ghost use Rattle.scenario.specs.declared.makings.Making.{Making};
+ghost use Rattle.scenario.specs.declared.makings.Order.{Order};
 ghost use Rattle.scenario.specs.Accumulators.{reads_of, pre_ordered as ordered, Writes, Makes};
 ghost use Rattle.scenario.specs.Names.{sorting_name, side_name, form_name, policy_words};
 ghost use Rattle.scenario.specs.Reading.{Told};
@@ -83,7 +86,7 @@ fn read_sorting(text: &str) -> Result<Sorting, Unread>
 
 // A row order of numbers, of one to three options that commas part.
 fn numbers(text: &str) -> Result<Order, Unread>
-    ensures { Told result (λ order. Writes order (codes "number:" ++ text.now)) (Unit {0}) }
+    ensures { Told result (λ order. Writes order (codes "number:" ++ text.now)) ((order : Order) → Writes order (codes "number:" ++ text.now) → ⊥) }
 {
     let mut sorts = [PLAIN; 3];
     let mut count = 0;
@@ -99,7 +102,7 @@ fn numbers(text: &str) -> Result<Order, Unread>
 
 // A row order.
 fn read_order(text: &str) -> Result<Order, Unread>
-    ensures { Told result (λ order. Writes order text.now) (Unit {0}) }
+    ensures { Told result (λ order. Writes order text.now) ((order : Order) → Writes order text.now → ⊥) }
 {
     match text.split_once(':') {
         Some(("number", options)) => numbers(options),
@@ -112,7 +115,7 @@ fn read_order(text: &str) -> Result<Order, Unread>
 
 // Whether nulls are ignored, and whether rows come in order: the words behind a making.
 fn policies(words: &mut Words) -> Result<(bool, bool), Unread>
-    ensures { Told result (λ policy. words_of words.old.rest.now ≡ policy_words policy.0 policy.1) (Unit {0}) }
+    ensures { Told result (λ policy. words_of words.old.rest.now ≡ policy_words policy.0 policy.1) ((nulls ordered : Bool) → words_of words.old.rest.now ≢ policy_words nulls ordered) }
 {
     match (words.next(), words.next(), words.next()) {
         (None, _, _) => Ok((false, false)),
@@ -125,7 +128,7 @@ fn policies(words: &mut Words) -> Result<(bool, bool), Unread>
 
 // The form of a name; only an accumulator alone may be given its rows in order.
 fn form_named(name: &str, pre_ordered: bool) -> Result<Form, Unread>
-    ensures { Told result (λ form. (name.now ≡ form_name form) × (ordered form ≡ pre_ordered)) (Unit {0}) }
+    ensures { Told result (λ form. (name.now ≡ form_name form) × (ordered form ≡ pre_ordered)) ((form : Form) → name.now ≡ form_name form → ordered form ≢ pre_ordered) }
 {
     match name {
         "grouped" if !pre_ordered => Ok(Form::Grouped),
@@ -147,7 +150,7 @@ fn is_first(word: &str) -> Result<bool, Unread>
 
 // How an accumulator is made, by the words behind the command's.
 pub(crate) fn read_making(words: &mut Words) -> Result<Making, Unread>
-    ensures { Told result (λ making. Makes making (words_of words.old.rest.now)) (Unit {0}) }
+    ensures { Told result (λ making. Makes making (words_of words.old.rest.now)) ((making : Making) → Makes making (words_of words.old.rest.now) → ⊥) }
 {
     let name = words.needed()?;
     let first = is_first(words.needed()?)?;

@@ -5,7 +5,7 @@ ghost use Rattle.scenario.specs.Reading.{Told};
 ghost use Rattle.scenario.specs.Shown.{IsFlagsOver};
 
 use crate::Unread;
-use crate::lists::{between, bytes, bytes_or_none, number};
+use crate::lists::{between, bytes_named, number_named, validity_named};
 use crate::packing::{packed, validity};
 use crate::words::Words;
 use column::{BoolColumn, ColumnFault};
@@ -41,38 +41,53 @@ fn mark(text: &str) -> Result<(bool, bool), Unread>
     }
 }
 
+// Adds a cell to a column's bits, and to which of them are known.
+fn push_mark(item: &str, bits: &mut Vec<bool>, there: &mut Vec<bool>) -> Result<(), Unread> {
+    let (bit, known) = mark(item)?;
+    bits.push(bit)?;
+    Ok(there.push(known)?)
+}
+
+// A column of some bits, of which some are known.
+fn of_bits(heap: Global, bits: &[bool], there: &[bool]) -> Result<Marks, Unread> {
+    Ok(Marks {
+        rows: bits.len(),
+        validity: validity(heap, there)?,
+        bits: packed(heap, bits)?,
+    })
+}
+
 // A column of truth values by its cells.
 fn by_cells(heap: Global, text: &str) -> Result<Marks, Unread> {
     let mut bits = Vec::new(heap);
     let mut there = Vec::new(heap);
     for item in Words::of(between(text, '[', ']')?) {
-        let (bit, known) = mark(item)?;
-        bits.push(bit)?;
-        there.push(known)?;
+        push_mark(item, &mut bits, &mut there)?;
     }
+    of_bits(heap, &bits, &there)
+}
+
+// The parts of a column of truth values, in their order.
+fn read_parts(heap: Global, words: &mut Words) -> Result<Marks, Unread> {
+    let rows = number_named(words, "rows")?;
+    let bits = bytes_named(heap, words, "bits")?;
     Ok(Marks {
-        rows: bits.len(),
-        validity: validity(heap, &there)?,
-        bits: packed(heap, &bits)?,
+        rows,
+        validity: validity_named(heap, words)?,
+        bits,
     })
 }
 
 // A column of truth values by its parts, which stand between braces.
 fn by_parts(heap: Global, text: &str) -> Result<Marks, Unread> {
     let mut words = Words::of(between(text, '{', '}')?);
-    let rows = number(words.named("rows")?)?;
-    let bits = bytes(heap, words.named("bits")?)?;
-    let validity = bytes_or_none(heap, words.named("validity")?)?;
+    let marks = read_parts(heap, &mut words)?;
     words.ended()?;
-    Ok(Marks {
-        rows,
-        validity,
-        bits,
-    })
+    Ok(marks)
 }
 
 // A column of truth values.
-pub(crate) fn read_marks(heap: Global, text: &str) -> Result<Marks, Unread> {
+fn read_marks(heap: Global, text: &str) -> Result<Marks, Unread> {
     if text.starts_with('{') {
         by_parts(heap, text)
     } else {
@@ -86,4 +101,9 @@ pub(crate) fn read_filter(heap: Global, text: Option<&str>) -> Result<Option<Mar
         None => Ok(None),
         Some(text) => Ok(Some(read_marks(heap, text)?)),
     }
+}
+
+// A column of truth values that has to be there.
+pub(crate) fn read_flags(heap: Global, text: Option<&str>) -> Result<Marks, Unread> {
+    read_marks(heap, text.ok_or(Unread::Malformed)?)
 }

@@ -6,7 +6,7 @@ ghost use Rattle.scenario.specs.Reading.{Told};
 ghost use Rattle.scenario.specs.Shown.{IsColumnOver};
 
 use crate::cells::cells;
-use crate::lists::{between, bytes, bytes_or_none, number, numbers};
+use crate::lists::{between, bytes_named, number_named, numbers, validity_named};
 use crate::words::Words;
 use crate::{Reads, Unread};
 use column::{Column, ColumnFault, Kind};
@@ -45,22 +45,23 @@ fn offsets(heap: Global, text: &str) -> Result<Vec<u32>, Unread> {
     numbers(heap, text)
 }
 
+// The parts of a column, in their order.
+fn read_parts(heap: Global, words: &mut Words) -> Result<Parts, Unread> {
+    Ok(Parts {
+        kind: number_named(words, "kind")?,
+        rows: number_named(words, "rows")?,
+        validity: validity_named(heap, words)?,
+        offsets: offsets(heap, words.named("offsets")?)?,
+        data: bytes_named(heap, words, "data")?,
+    })
+}
+
 // A column by its parts, which stand between braces.
 fn by_parts(heap: Global, text: &str) -> Result<Parts, Unread> {
     let mut words = Words::of(between(text, '{', '}')?);
-    let kind = number(words.named("kind")?)?;
-    let rows = number(words.named("rows")?)?;
-    let validity = bytes_or_none(heap, words.named("validity")?)?;
-    let offsets = offsets(heap, words.named("offsets")?)?;
-    let data = bytes(heap, words.named("data")?)?;
+    let parts = read_parts(heap, &mut words)?;
     words.ended()?;
-    Ok(Parts {
-        kind,
-        rows,
-        validity,
-        offsets,
-        data,
-    })
+    Ok(parts)
 }
 
 // The kind of a name.
