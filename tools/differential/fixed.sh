@@ -2,8 +2,9 @@
 # Replays the fixed list through a program and compares its answers with the original's: fixed.sh PROGRAM [grouped|single]..
 # At a named difference the answer must be the one that stands last in its line, and the name must stand in docs/DIFFERENCES.md.
 set -eu
-lists=$(cd "$(dirname "$0")/fixed" && pwd)
-page=$(cd "$(dirname "$0")/../../docs" && pwd)/DIFFERENCES.md
+top=$(cd "$(dirname "$0")/../.." && pwd)
+lists=$top/crates/replay/data
+page=$top/docs/DIFFERENCES.md
 program=$1
 shift
 [ $# -gt 0 ] || set -- grouped single

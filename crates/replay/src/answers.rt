@@ -1,21 +1,29 @@
 // What is answered, as text.
+ghost use Rattle.std.specs.Prelude.{◌≡◌, IfOk, codes, string_bytes};
+
 use crate::given::Stop;
 use grouped::FINISHED;
 use std::alloc::{AllocError, Global};
 use std::fmt::Write;
 
 // A line that is no command, or that stands where it may not.
-pub fn malformed(heap: Global) -> Result<String, AllocError> {
+pub fn malformed(heap: Global) -> Result<String, AllocError>
+    ensures { IfOk result (λ answer. string_bytes answer ≡ codes "malformed") }
+{
     String::from_str(heap, "malformed")
 }
 
 // An accumulator was made.
-pub fn made(heap: Global) -> Result<String, AllocError> {
+pub fn made(heap: Global) -> Result<String, AllocError>
+    ensures { IfOk result (λ answer. string_bytes answer ≡ codes "made") }
+{
     String::from_str(heap, "made")
 }
 
 // A call was taken; its output parts follow.
-pub fn taken(heap: Global) -> Result<String, AllocError> {
+pub fn taken(heap: Global) -> Result<String, AllocError>
+    ensures { IfOk result (λ answer. string_bytes answer ≡ codes "ok") }
+{
     String::from_str(heap, "ok")
 }
 

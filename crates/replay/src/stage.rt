@@ -1,4 +1,7 @@
 // The accumulators: one for each value state and each row order, of groups or without them.
+ghost use Rattle.std.specs.Prelude.{◌≡◌, IfOk};
+ghost use Rattle.scenario.specs.Accumulators.{reads_of};
+
 use crate::alone::play;
 use crate::calls::perform;
 use byte_values::BytesValueState;
@@ -118,7 +121,9 @@ fn by_text(heap: Global, making: &Making, order: TextOrder) -> Result<Stages, Al
 
 impl Stage {
     // The accumulator that is asked for.
-    pub fn new(heap: Global, making: &Making) -> Result<Stage, AllocError> {
+    pub fn new(heap: Global, making: &Making) -> Result<Stage, AllocError>
+        ensures { IfOk result (λ stage. stage.reads ≡ reads_of making.now) }
+    {
         let accumulator = match making.order {
             Order::Numbers { sorts, count } => {
                 by_numbers(heap, making, NumberOrder::new(sorts, count))?
@@ -132,7 +137,9 @@ impl Stage {
     }
 
     // What the accumulator reads.
-    pub fn reads(&self) -> Reads {
+    pub fn reads(&self) -> Reads
+        ensures { result ≡ self.now.reads }
+    {
         self.reads
     }
 
@@ -142,7 +149,9 @@ impl Stage {
         heap: Global,
         call: &Call,
         open: &mut [u32],
-    ) -> Result<String, AllocError> {
+    ) -> Result<String, AllocError>
+        ensures { self.new.reads ≡ self.old.reads }
+    {
         let reads = self.reads;
         match &mut self.accumulator {
             Stages::NumbersByNumbers(stage) => stage.call(heap, reads, call, open),
