@@ -1,9 +1,9 @@
 #!/usr/bin/env python3
 """Runs scenarios through two programs and compares their answers to the byte.
 
-    compare.py --original PROGRAM --port PROGRAM --generate PROGRAM [--seed N] [--random N] [--only FAMILY] [--least N] [--grouped]
+    compare.py --original PROGRAM --port PROGRAM --generate PROGRAM [--seed N] [--random N] [--only FAMILY] [--least N] [--grouped] [--as-found]
 
-It takes all short scenarios, those of the limits, and N drawn at random. An answer `A ## NAME ## B` of the original's
+It takes all short scenarios, those of the limits, and N drawn at random; of the fixed list only if told so. An answer `A ## NAME ## B` of the original's
 driver says that A is the original's, B is what the rules ask, and NAME is the difference: the port must answer B, and the name must
 stand in docs/DIFFERENCES.md. Every other answer must be the same. Where one differs, the smallest scenario that still differs
 is shown, and the exit code is 1.
@@ -51,6 +51,11 @@ def unlike(answer, port):
     return asked(answer) != (port, asked(answer)[1]) or asked(answer)[1] == "unnamed"
 
 
+def padded(lines, count, missing):
+    """As many answers as there are commands, where a program may have ended before."""
+    return lines + [missing] * (count - len(lines))
+
+
 def first_difference(programs, candidates):
     """Of some scenarios the first whose answers differ: its place, the differing command's, and both answers; or None."""
     original, port = (iter(lines) for lines in answers(programs, "\n".join(line for lines in candidates for line in lines) + "\n"))
@@ -78,15 +83,18 @@ class Tally:
         place = 0
         for _, lines in chunk:
             commands = sum(map(is_command, lines))
-            here, there = original[place : place + commands], port[place : place + commands]
+            here = padded(original[place : place + commands], commands, "(no answer of the original)")
+            there = padded(port[place : place + commands], commands, "(no answer)")
             place += commands
             self.answers[family] += commands
             for answer in here:
                 self.sorts[re.sub(r"(declined \d+|\w+).*", r"\1", answer)] += 1
                 if asked(answer)[1]:
                     self.names[asked(answer)[1]] += 1
-            if not len(here) == len(there) == commands or any(map(unlike, here, there)):
-                self.differing.append((sum(map(len, lines)), lines))
+            different = [command for command in range(commands) if unlike(here[command], there[command])]
+            if different:
+                first = different[0]
+                self.differing.append((sum(map(len, lines)), lines, first, here[first], there[first]))
 
 
 def without_single(stream):
@@ -107,12 +115,14 @@ def chunks(stream):
         yield chunk
 
 
-def show(programs, tally):
-    """Shows the smallest scenario that differs."""
+def show(programs, tally, as_found):
+    """Shows the smallest scenario that differs, made smaller where that is wanted."""
     tally.differing.sort(key=lambda found: found[0])
-    print(f"{len(tally.differing)} scenarios differ; the smallest, made smaller:")
-    smallest = minimise(tally.differing[0][1], lambda candidates: first_difference(programs, candidates))
-    _, command, left, right = first_difference(programs, [smallest])
+    _, smallest, command, left, right = tally.differing[0]
+    print(f"{len(tally.differing)} scenarios differ; the smallest{'' if as_found else ', made smaller'}:")
+    if not as_found:
+        smallest = minimise(smallest, lambda candidates: first_difference(programs, candidates))
+        _, command, left, right = first_difference(programs, [smallest])
     print("\n".join("    " + line for line in smallest))
     print(f"at command {command + 1}:\n    original: {left}\n    port:     {right}")
 
@@ -139,14 +149,16 @@ def main():
     parser.add_argument("--generate", required=True)
     parser.add_argument("--seed", type=int, default=1)
     parser.add_argument("--random", type=int, default=20_000)
-    parser.add_argument("--only", choices=["short", "limits", "random"])
+    parser.add_argument("--only", choices=["short", "limits", "random", "fixed"])
     parser.add_argument("--grouped", action="store_true", help="leave out accumulators without groups")
+    parser.add_argument("--as-found", action="store_true", help="show a scenario that differs without making it smaller")
     parser.add_argument("--least", type=int, default=0, help="fewer answers than this are a failure")
     options = parser.parse_args()
     programs = [options.original, options.port]
-    families = {"limits": ["limits"], "short": ["short"], "random": ["random", str(options.seed), str(options.random)]}
+    families = [("limits", ["limits"]), ("short", ["short"]), ("random", ["random", str(options.seed), str(options.random)])]
+    fixed = [("fixed", ["fixed", form]) for form in ("grouped", "single")]
     tally, start = Tally(), time.time()
-    for family, arguments in families.items():
+    for family, arguments in fixed if options.only == "fixed" else families:
         if options.only in (None, family):
             with subprocess.Popen([options.generate, *arguments], stdout=subprocess.PIPE, text=True) as source:
                 found = scenarios(source.stdout)
@@ -158,7 +170,7 @@ def main():
             break
     report(tally, time.time() - start)
     if tally.differing:
-        show(programs, tally)
+        show(programs, tally, options.as_found)
         sys.exit(1)
     if sum(tally.answers.values()) < options.least:
         sys.exit(f"fewer than {options.least} answers")

@@ -1,5 +1,5 @@
 #!/usr/bin/env python3
-"""Shows that the comparison finds an error: plants one in a copy of the port, builds that without proof, and compares.
+"""Shows that the comparison finds an error: plants one in a copy of the port, builds that without proof, and compares the fixed list.
 
     plant.py FOLDER [EDIT] [--grouped]
 
@@ -43,10 +43,10 @@ def plant(crate, edit):
             file.write_text(source.replace(old, text))
 
 
-def program(folder, command, crate):
-    """A program that runs the crate without proof."""
+def program(folder, crate):
+    """A program that builds and runs the crate without proof."""
     script = folder / "port"
-    script.write_text(f"#!/bin/sh\ncd '{crate}' && exec {command}\n")
+    script.write_text(f"#!/bin/sh\ncd '{crate}' && exec rt try\n")
     script.chmod(0o755)
     return script
 
@@ -56,7 +56,6 @@ def main():
     parser.add_argument("folder")
     parser.add_argument("edit", nargs="?", default=LATEST_TIE)
     parser.add_argument("--grouped", action="store_true", help="leave out accumulators without groups")
-    parser.add_argument("--run", default="rt try", help="what builds and runs the crate in its folder")
     options = parser.parse_args()
     environment = dict(os.environ, ORIGINAL=str(pathlib.Path(options.folder).resolve()))
     subprocess.run(["cargo", "build", "--release", "--offline", "--quiet"], cwd=HERE, env=environment, check=True)
@@ -67,11 +66,13 @@ def main():
         copy_repository(copy)
         edit = pathlib.PurePosixPath(options.edit)
         plant(copy / edit.parent.parent, TOP / edit)
-        port = program(pathlib.Path(folder), options.run, copy / "crates/replay")
-        # Once before the clock runs, so that what is built stays built.
-        subprocess.run([port], stdin=subprocess.DEVNULL, stdout=subprocess.DEVNULL)
+        port = program(pathlib.Path(folder), copy / "crates/replay")
+        # Once before the clock runs, so that the libraries below are built.
+        subprocess.run([port], stdin=subprocess.DEVNULL, stdout=subprocess.DEVNULL, stderr=subprocess.DEVNULL)
         start = time.time()
+        # The program is built anew for each run, and takes a bounded output: a run for each form, and none to make a scenario smaller.
         compare = [sys.executable, HERE / "compare.py", "--original", built / "driver", "--port", port, "--generate", built / "generate"]
+        compare += ["--only", "fixed", "--as-found"]
         code = subprocess.run(compare + ["--grouped"] * options.grouped).returncode
         seconds = time.time() - start
     if code != 1:
