@@ -4,22 +4,21 @@
 --   is_blank      a line of nothing but spaces
 --   is_silent     a blank line or a comment, which get no answer
 --   reads         what the accumulator reads, if there is one
---   Unasked       no accumulator is asked for, and of the one that is there no emission of everything with as much room as is needed
+--   Unasked       the words write no command
 --   Done          what a command leaves, with its answer; of a call only that the accumulator stays as it was made
---   Played        a line is malformed and changes nothing, as it is no text or asks for nothing of this; or a command of it is done
+--   Played        a line is malformed and changes nothing, as it is no text or writes no command; or its command is done
 --   Answered      a silent line changes nothing; any other is played
-use Rattle.std.specs.Prelude.{◌≡◌, ◌≢◌, ℕ, ◌-◌, Bool, true, false, ◌||◌, ◌==◌, List, [], ◌∷◌, take, length, codes, Option, Some, None, IsTrue, IsFalse, ◌⊎◌, if◌then◌else◌}
+use Rattle.std.specs.Prelude.{◌≡◌, ℕ, ◌-◌, Bool, true, false, ◌||◌, ◌==◌, List, [], ◌∷◌, take, length, codes, Option, Some, None, IsTrue, IsFalse, ◌⊎◌, if◌then◌else◌}
 use Rattle.std.specs.List.{slice_get, list_all}
 use Rattle.std.specs.Option.{option_map}
 use Rattle.std.specs.Str.{IsUtf8}
 use Rattle.scenario.specs.declared.Reads.{Reads}
 use Rattle.scenario.specs.declared.commands.Command.{Command}
 use Rattle.scenario.specs.declared.commands.Command.TheVariants.{Make, Open, Call}
-use Rattle.scenario.specs.declared.makings.Making.{Making}
-use Rattle.scenario.specs.Accumulators.{reads_of, Makes, Proper}
-use Rattle.scenario.specs.Plain.{every}
+use Rattle.scenario.specs.Accumulators.{reads_of, Proper}
 use Rattle.scenario.specs.Names.{command_name}
 use Rattle.scenario.specs.Words.{words}
+use Rattle.replay.specs.Texts.{open_text}
 use Rattle.replay.specs.declared.playing.Replay.{Replay}
 
 abbrev pub is_return : Option ℕ → Bool
@@ -41,13 +40,11 @@ reads r = option_map (λ s. s.reads) r.stage
 
 abbrev pub Done : Command → Replay → Replay → List ℕ → Type 0
 Done (Make m) old new a = (a ≡ codes "made") × (reads new ≡ Some (reads_of m)) × (new.«open».items ≡ [])
-Done (Open list) old new a = (new.stage ≡ old.stage) × (new.«open» ≡ list)
+Done (Open list) old new a = (a ≡ open_text list.items) × (new.stage ≡ old.stage) × (new.«open» ≡ list)
 Done (Call call) old new a = reads new ≡ reads old
 
 abbrev pub Unasked : Option Reads → List (List ℕ) → Type 0
-Unasked reads ws =
-    ((m : Making) → (more : List (List ℕ)) → ws ≡ codes "make" ∷ more → Makes m more → ⊥)
-    × ((a : Reads) → reads ≡ Some a → (ws ≢ codes "evaluate" ∷ every a.alone) × (ws ≢ codes "state" ∷ every a.alone))
+Unasked reads ws = (command : Command) → (more : List (List ℕ)) → ws ≡ command_name command ∷ more → Proper reads command more → ⊥
 
 abbrev pub Played : Replay → Replay → List ℕ → List ℕ → Type 0
 Played old new text a = ((a ≡ codes "malformed") × (new ≡ old) × (IsUtf8 text → Unasked (reads old) (words text))) ⊎ ((command : Command) × (more : List (List ℕ)) × (words text ≡ command_name command ∷ more) × Proper (reads old) command more × Done command old new a)

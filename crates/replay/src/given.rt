@@ -42,6 +42,11 @@ impl From<AllocError> for Stop {
 }
 
 impl fmt::Display for Declined {
+    ghost use Rattle.std.specs.Prelude.{Some};
+    ghost use Rattle.replay.specs.Texts.{declined_text};
+
+    ghost output = { λ d. Some (declined_text d) };
+
     // The refusal by its numbers.
     fn fmt<W: fmt::Write>(&self, f: &mut fmt::Formatter<W>) -> fmt::Result {
         match self {

@@ -3,3 +3,11 @@ pub mod Chunking
 pub mod Stripping
 pub mod Options
 pub mod Telling
+pub mod Parting
+pub mod Counting
+pub mod Naming
+pub mod Refusing
+pub mod Gathering
+pub mod Asking
+pub mod Filling
+pub mod Slashes

@@ -3,13 +3,14 @@ use Rattle.std.proofs.Common.{◌≡◌, ◌≢◌, ℕ, ◌-◌, ◌<◌, List,
 use Rattle.std.specs.Prelude.{MatchOption, encode_utf8}
 use Rattle.std.specs.Str.Pattern.{FindsCharPrefix, FindsCharSuffix, StripsPrefix, StripsSuffix}
 use Rattle.std.proofs.Math.Seq.{drop-length}
-use Rattle.std.proofs.lemmas.List.{take-append-drop, append_cancel_left}
+use Rattle.std.proofs.lemmas.List.{take-append-drop, append_cancel_left, append_cancel_right}
 use Rattle.std.specs.Option.{ok_or}
 use Rattle.std.proofs.lemmas.Str.{encode_ascii}
 use Rattle.std.proofs.lemmas.Str.Pattern.{strip_prefix_char}
 use Rattle.scenario.specs.declared.Unread.{Unread}
 use Rattle.scenario.specs.declared.Unread.TheVariants.{Malformed, OutOfMemory}
-use Rattle.scenario.specs.Reading.{Told, ReadsBytes, enclosed}
+use Rattle.scenario.specs.Reading.{Told, ReadsBytes}
+use Rattle.scenario.specs.Texts.{enclosed}
 use denote.Ref.{Bor}
 
 pub without_first : (c : ℕ) (t : List ℕ) (r : Option (Bor (List ℕ))) → MatchOption r (FindsCharPrefix c t None) (λ x. StripsPrefix (FindsCharPrefix c) t x.now)
@@ -55,3 +56,7 @@ no_bytes items t r e h is = go r e (strip_prefix_char 120 t r h (lit< tt)) is
 -- a text between two brackets
 pub between_ascii : (first last : ℕ) (inner : List ℕ) → first < 128 → last < 128 → enclosed (encode_utf8 first) (encode_utf8 last) inner ≡ enclosed (first ∷ []) (last ∷ []) inner
 between_ascii first last inner f l = ap (λ front. enclosed front (encode_utf8 last) inner) (encode_ascii first f) ∙ ap (λ back. enclosed (first ∷ []) back inner) (encode_ascii last l)
+
+-- what stands between two texts is one text
+pub same_inner : (front back a b : List ℕ) → enclosed front back a ≡ enclosed front back b → a ≡ b
+same_inner front back a b is = append_cancel_right a b back (append_cancel_left front (a ++ back) (b ++ back) is)

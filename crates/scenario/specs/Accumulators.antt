@@ -6,8 +6,9 @@
 --   Writes         a text writes an order: of text, or of the first one to three of its three options for numbers
 --   pre_ordered    whether rows come in order, which groups' do not
 --   Makes          these words, behind a command's, ask for an accumulator made so
---   Proper         these words, behind a command's, ask for what is made so, or for a call where an accumulator is made
-use Rattle.std.specs.Prelude.{◌≡◌, ℕ, ◌≤◌, Bool, true, false, List, ◌∷◌, ◌++◌, take, map, length, codes, Option, IsSome}
+--   Opens          these words, behind a command's, are a list of these group numbers
+--   Proper         these words, behind a command's, ask for it; for a call where an accumulator is made
+use Rattle.std.specs.Prelude.{◌≡◌, ℕ, ◌≤◌, Bool, true, false, List, [], ◌∷◌, ◌++◌, take, map, length, codes, Option, Some}
 use Rattle.std.specs.List.{join_with_byte}
 use Rattle.column.specs.declared.Kind.{Kind}
 use Rattle.column.specs.declared.Kind.TheVariants as kind
@@ -20,6 +21,8 @@ use Rattle.scenario.specs.declared.makings.Order.{Order}
 use Rattle.scenario.specs.declared.makings.Order.TheVariants.{Numbers, Text}
 use Rattle.scenario.specs.declared.commands.Command.{Command}
 use Rattle.scenario.specs.declared.commands.Command.TheVariants.{Make, Open, Call}
+use Rattle.scenario.specs.Calls.{Asks}
+use Rattle.scenario.specs.Texts.{IsCounts}
 use Rattle.scenario.specs.Names.{sorting_name, form_name, side_name, kind_name, policy_words}
 
 abbrev pub key_kind : Order → Kind
@@ -51,7 +54,10 @@ pre_ordered (Single ordered) = ordered
 abbrev pub Makes : Making → List (List ℕ) → Type 0
 Makes m ws = (order : List ℕ) × Writes m.order order × (ws ≡ form_name m.form ∷ side_name m.first ∷ kind_name m.values ∷ order ∷ policy_words m.ignore_nulls (pre_ordered m.form))
 
+abbrev pub Opens : List ℕ → List (List ℕ) → Type 0
+Opens list ws = (text : List ℕ) × (ws ≡ text ∷ []) × IsCounts 32 text list
+
 abbrev pub Proper : Option Reads → Command → List (List ℕ) → Type 0
 Proper reads (Make m) ws = Makes m ws
-Proper reads (Open list) ws = Unit {0}
-Proper reads (Call c) ws = IsSome reads
+Proper reads (Open list) ws = Opens list.items ws
+Proper reads (Call c) ws = (a : Reads) × (reads ≡ Some a) × Asks a ws c

@@ -1,8 +1,12 @@
 pub mod Words
+pub mod Texts
 pub mod Reading
 pub mod Names
 pub mod Packing
 pub mod Rooms
+pub mod Cells
+pub mod Fields
+pub mod Calls
 pub mod Accumulators
 pub mod Shown
 pub mod Plain

@@ -1,5 +1,6 @@
 -- Names: how a scenario names what it speaks of.
 --   kind_name     a kind
+--   sorting_text  an option, by whether it is descending and whether nulls come first
 --   sorting_name  an option of an order column
 --   side_name     FIRST where true, else LAST
 --   form_name     whether an accumulator is of groups or alone

@@ -1,8 +1,11 @@
 // The calls of an accumulator without groups.
-ghost use Rattle.std.specs.Prelude.{◌≡◌, Ok, codes};
+ghost use Rattle.std.specs.Prelude.{◌≡◌, [], ◌∷◌, IsOk, true, codes};
+ghost use Rattle.scenario.specs.declared.Reads.{Reads};
+ghost use Rattle.scenario.specs.Calls.{AsksAlone};
+ghost use Rattle.scenario.specs.Fields.{Texts, texts_of, Gathers};
 ghost use Rattle.scenario.specs.Names.{single_name};
-ghost use Rattle.scenario.specs.Plain.{Fieldless, alone_evaluate, alone_state, PlainAlone};
-ghost use Rattle.scenario.specs.Reading.{Found};
+ghost use Rattle.scenario.specs.Plain.{Fieldless, IsPlain};
+ghost use Rattle.scenario.specs.Reading.{Finds, Tells};
 ghost use Rattle.scenario.specs.Words.{words as words_of};
 
 use crate::calls::{Columns, emission, read_columns};
@@ -24,7 +27,7 @@ pub enum SingleCall {
 
 // `update values=COLUMN key=COLUMN ..`
 fn update(heap: Global, fields: &Fields, reads: Reads) -> Result<SingleCall, Unread>
-    ensures { Found result (λ call. single_name call ≡ codes "update") (Unit {0}) }
+    ensures { Finds result (λ call. (single_name call ≡ codes "update") × AsksAlone reads (texts_of fields.now) call) }
 {
     if fields.has_groups() || fields.has_marks() || fields.room.is_some() {
         return Err(Unread::Malformed);
@@ -36,7 +39,7 @@ fn update(heap: Global, fields: &Fields, reads: Reads) -> Result<SingleCall, Unr
 
 // `merge values=COLUMN key=COLUMN .. flags=MARKS`
 fn merge(heap: Global, fields: &Fields, reads: Reads) -> Result<SingleCall, Unread>
-    ensures { Found result (λ call. single_name call ≡ codes "merge") (Unit {0}) }
+    ensures { Finds result (λ call. (single_name call ≡ codes "merge") × AsksAlone reads (texts_of fields.now) call) }
 {
     if fields.has_groups() || fields.filter.is_some() || fields.room.is_some() {
         return Err(Unread::Malformed);
@@ -50,8 +53,7 @@ fn merge(heap: Global, fields: &Fields, reads: Reads) -> Result<SingleCall, Unre
 
 // `evaluate [room=ROOM]`
 fn evaluate(fields: &Fields) -> Result<SingleCall, Unread>
-    ensures name { Found result (λ call. single_name call ≡ codes "evaluate") (Unit {0}) }
-    ensures plain { Fieldless fields.now → result ≡ Ok alone_evaluate }
+    ensures { Tells result (λ call. (single_name call ≡ codes "evaluate") × ((a : Reads) → AsksAlone a (texts_of fields.now) call)) }
 {
     Ok(SingleCall::Evaluate {
         room: emission(fields)?,
@@ -60,8 +62,7 @@ fn evaluate(fields: &Fields) -> Result<SingleCall, Unread>
 
 // `state [room=ROOM]`
 fn state(fields: &Fields) -> Result<SingleCall, Unread>
-    ensures name { Found result (λ call. single_name call ≡ codes "state") (Unit {0}) }
-    ensures plain { Fieldless fields.now → result ≡ Ok alone_state }
+    ensures { Tells result (λ call. (single_name call ≡ codes "state") × ((a : Reads) → AsksAlone a (texts_of fields.now) call)) }
 {
     Ok(SingleCall::State {
         room: emission(fields)?,
@@ -70,9 +71,8 @@ fn state(fields: &Fields) -> Result<SingleCall, Unread>
 
 // A call by its name and its fields.
 fn read_named(heap: Global, name: &str, fields: &Fields, reads: Reads) -> Result<SingleCall, Unread>
-    ensures name { Found result (λ call. name.now ≡ single_name call) (Unit {0}) }
-    ensures evaluate { Fieldless fields.now → name.now ≡ codes "evaluate" → result ≡ Ok alone_evaluate }
-    ensures state { Fieldless fields.now → name.now ≡ codes "state" → result ≡ Ok alone_state }
+    ensures answer { Finds result (λ call. (name.now ≡ single_name call) × AsksAlone reads (texts_of fields.now) call) }
+    ensures plain { Fieldless fields.now → IsPlain true (name.now ∷ []) → IsOk result }
 {
     match name {
         "update" => update(heap, fields, reads),
@@ -90,8 +90,8 @@ pub(crate) fn read_single(
     words: Words,
     reads: Reads,
 ) -> Result<SingleCall, Unread>
-    ensures name { Found result (λ call. name.now ≡ single_name call) (Unit {0}) }
-    ensures plain { PlainAlone name.now (words_of words.entry.rest.now) result }
+    ensures answer { Finds result (λ call. (name.now ≡ single_name call) × ((texts : Texts) × Gathers (words_of words.entry.rest.now) texts × AsksAlone reads texts call)) }
+    ensures plain { IsPlain true (name.now ∷ words_of words.entry.rest.now) → IsOk result }
 {
     read_named(heap, name, &Fields::of(heap, words)?, reads)
 }

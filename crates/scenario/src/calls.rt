@@ -1,10 +1,11 @@
 // The calls of an accumulator.
-ghost use Rattle.std.specs.Prelude.{◌≡◌, Ok, false, codes};
+ghost use Rattle.std.specs.Prelude.{◌≡◌, ◌∷◌, IsOk, false, codes};
+ghost use Rattle.scenario.specs.declared.Reads.{Reads};
+ghost use Rattle.scenario.specs.Calls.{Columned, Grouped, Rows, IsLeaving, Bare, Emitted, AsksRows, AsksGroups, Asks};
+ghost use Rattle.scenario.specs.Fields.{texts_of};
 ghost use Rattle.scenario.specs.Names.{call_name};
-ghost use Rattle.scenario.specs.declared.calls.Leaving.TheVariants.{All};
-ghost use Rattle.scenario.specs.declared.rooms.Room.TheVariants.{Exact};
-ghost use Rattle.scenario.specs.Plain.{Fieldless, every, evaluate_of, state_of, Plain};
-ghost use Rattle.scenario.specs.Reading.{Found};
+ghost use Rattle.scenario.specs.Plain.{every, IsPlain};
+ghost use Rattle.scenario.specs.Reading.{Finds, Tells};
 ghost use Rattle.scenario.specs.Words.{words as words_of};
 
 use crate::alone::{SingleCall, read_single};
@@ -67,7 +68,9 @@ pub enum Call {
 }
 
 // The columns of some fields.
-pub(crate) fn read_columns(heap: Global, fields: &Fields, reads: Reads) -> Result<Columns, Unread> {
+pub(crate) fn read_columns(heap: Global, fields: &Fields, reads: Reads) -> Result<Columns, Unread>
+    ensures { Finds result (λ columns. Columned reads (texts_of fields.now) columns) }
+{
     let value = fields.values.ok_or(Unread::Malformed)?;
     let values = read_values(heap, value, reads)?;
     Ok(Columns {
@@ -77,14 +80,18 @@ pub(crate) fn read_columns(heap: Global, fields: &Fields, reads: Reads) -> Resul
 }
 
 // The group indices and the total number of groups of some fields.
-fn read_groups(heap: Global, fields: &Fields) -> Result<(Vec<usize>, usize), Unread> {
+fn read_groups(heap: Global, fields: &Fields) -> Result<(Vec<usize>, usize), Unread>
+    ensures { Finds result (λ rows. Grouped (texts_of fields.now) rows.0.items rows.1) }
+{
     let total = number(fields.total.ok_or(Unread::Malformed)?)?;
     let groups = numbers(heap, fields.groups.ok_or(Unread::Malformed)?)?;
     Ok((groups, total))
 }
 
 // The rows of some fields.
-fn read_batch(heap: Global, fields: &Fields, reads: Reads) -> Result<Batch, Unread> {
+fn read_batch(heap: Global, fields: &Fields, reads: Reads) -> Result<Batch, Unread>
+    ensures { Finds result (λ batch. Rows reads (texts_of fields.now) batch) }
+{
     let (groups, total) = read_groups(heap, fields)?;
     Ok(Batch {
         columns: read_columns(heap, fields, reads)?,
@@ -95,7 +102,7 @@ fn read_batch(heap: Global, fields: &Fields, reads: Reads) -> Result<Batch, Unre
 
 // `update values=COLUMN key=COLUMN .. groups=[N ..] total=N [filter=MARKS]`
 fn update(heap: Global, fields: &Fields, reads: Reads) -> Result<Call, Unread>
-    ensures { Found result (λ call. call_name call ≡ codes "update") (Unit {0}) }
+    ensures { Finds result (λ call. (call_name call ≡ codes "update") × AsksRows reads (texts_of fields.now) call) }
 {
     if fields.flags.is_some() || fields.room.is_some() {
         return Err(Unread::Malformed);
@@ -109,7 +116,7 @@ fn update(heap: Global, fields: &Fields, reads: Reads) -> Result<Call, Unread>
 
 // `merge values=COLUMN key=COLUMN .. groups=[N ..] total=N flags=MARKS`
 fn merge(heap: Global, fields: &Fields, reads: Reads) -> Result<Call, Unread>
-    ensures { Found result (λ call. call_name call ≡ codes "merge") (Unit {0}) }
+    ensures { Finds result (λ call. (call_name call ≡ codes "merge") × AsksRows reads (texts_of fields.now) call) }
 {
     if fields.filter.is_some() || fields.room.is_some() {
         return Err(Unread::Malformed);
@@ -123,7 +130,7 @@ fn merge(heap: Global, fields: &Fields, reads: Reads) -> Result<Call, Unread>
 
 // `convert values=COLUMN key=COLUMN .. [filter=MARKS] [room=ROOM]`
 fn convert(heap: Global, fields: &Fields, reads: Reads) -> Result<Call, Unread>
-    ensures { Found result (λ call. call_name call ≡ codes "convert") (Unit {0}) }
+    ensures { Finds result (λ call. (call_name call ≡ codes "convert") × AsksRows reads (texts_of fields.now) call) }
 {
     if fields.has_groups() || fields.flags.is_some() {
         return Err(Unread::Malformed);
@@ -139,7 +146,7 @@ fn convert(heap: Global, fields: &Fields, reads: Reads) -> Result<Call, Unread>
 
 // How many groups leave.
 fn read_leaving(text: &str) -> Result<Leaving, Unread>
-    ensures { text.now ≡ codes "all" → result ≡ Ok All }
+    ensures { Tells result (λ leaving. IsLeaving text.now leaving) }
 {
     if text == "all" {
         return Ok(Leaving::All);
@@ -149,7 +156,7 @@ fn read_leaving(text: &str) -> Result<Leaving, Unread>
 
 // The room of an emission, which has no other field.
 pub(crate) fn emission(fields: &Fields) -> Result<Room, Unread>
-    ensures { Fieldless fields.now → result ≡ Ok Exact }
+    ensures { Tells result (λ room. Bare (texts_of fields.now) room) }
 {
     if fields.has_columns() || fields.has_groups() || fields.has_marks() {
         return Err(Unread::Malformed);
@@ -159,7 +166,8 @@ pub(crate) fn emission(fields: &Fields) -> Result<Room, Unread>
 
 // The groups that leave, and the room for them: `all|N [room=ROOM]`
 fn read_emission(heap: Global, mut words: Words) -> Result<(Leaving, Room), Unread>
-    ensures { words_of words.entry.rest.now ≡ every false → result ≡ Ok (All, Exact) }
+    ensures answer { Finds result (λ asked. Emitted (words_of words.entry.rest.now) asked.0 asked.1) }
+    ensures plain { words_of words.entry.rest.now ≡ every false → IsOk result }
 {
     let leaving = read_leaving(words.needed()?)?;
     Ok((leaving, emission(&Fields::of(heap, words)?)?))
@@ -167,8 +175,8 @@ fn read_emission(heap: Global, mut words: Words) -> Result<(Leaving, Room), Unre
 
 // `evaluate all|N [room=ROOM]`
 fn evaluate(heap: Global, words: Words) -> Result<Call, Unread>
-    ensures name { Found result (λ call. call_name call ≡ codes "evaluate") (Unit {0}) }
-    ensures plain { words_of words.entry.rest.now ≡ every false → result ≡ Ok (evaluate_of false) }
+    ensures answer { Finds result (λ call. (call_name call ≡ codes "evaluate") × ((a : Reads) → AsksGroups a (words_of words.entry.rest.now) call)) }
+    ensures plain { words_of words.entry.rest.now ≡ every false → IsOk result }
 {
     let (leaving, room) = read_emission(heap, words)?;
     Ok(Call::Evaluate { leaving, room })
@@ -176,8 +184,8 @@ fn evaluate(heap: Global, words: Words) -> Result<Call, Unread>
 
 // `state all|N [room=ROOM]`
 fn state(heap: Global, words: Words) -> Result<Call, Unread>
-    ensures name { Found result (λ call. call_name call ≡ codes "state") (Unit {0}) }
-    ensures plain { words_of words.entry.rest.now ≡ every false → result ≡ Ok (state_of false) }
+    ensures answer { Finds result (λ call. (call_name call ≡ codes "state") × ((a : Reads) → AsksGroups a (words_of words.entry.rest.now) call)) }
+    ensures plain { words_of words.entry.rest.now ≡ every false → IsOk result }
 {
     let (leaving, room) = read_emission(heap, words)?;
     Ok(Call::State { leaving, room })
@@ -185,7 +193,7 @@ fn state(heap: Global, words: Words) -> Result<Call, Unread>
 
 // A call of rows by its name and its fields.
 fn read_rows(heap: Global, name: &str, fields: &Fields, reads: Reads) -> Result<Call, Unread>
-    ensures { Found result (λ call. name.now ≡ call_name call) (Unit {0}) }
+    ensures { Finds result (λ call. (name.now ≡ call_name call) × AsksRows reads (texts_of fields.now) call) }
 {
     match name {
         "update" => update(heap, fields, reads),
@@ -197,8 +205,8 @@ fn read_rows(heap: Global, name: &str, fields: &Fields, reads: Reads) -> Result<
 
 // A call of groups by its name and the words behind it.
 fn read_grouped(heap: Global, name: &str, words: Words, reads: Reads) -> Result<Call, Unread>
-    ensures name { Found result (λ call. name.now ≡ call_name call) (Unit {0}) }
-    ensures plain { Plain false name.now (words_of words.entry.rest.now) result }
+    ensures answer { Finds result (λ call. (name.now ≡ call_name call) × AsksGroups reads (words_of words.entry.rest.now) call) }
+    ensures plain { IsPlain false (name.now ∷ words_of words.entry.rest.now) → IsOk result }
 {
     match name {
         "evaluate" => evaluate(heap, words),
@@ -214,8 +222,8 @@ pub(crate) fn read_call(
     words: Words,
     reads: Reads,
 ) -> Result<Call, Unread>
-    ensures name { Found result (λ call. name.now ≡ call_name call) (Unit {0}) }
-    ensures plain { Plain reads.alone name.now (words_of words.entry.rest.now) result }
+    ensures answer { Finds result (λ call. (name.now ≡ call_name call) × Asks reads (words_of words.entry.rest.now) call) }
+    ensures plain { IsPlain reads.alone (name.now ∷ words_of words.entry.rest.now) → IsOk result }
 {
     if reads.alone {
         return Ok(Call::Single(read_single(heap, name, words, reads)?));

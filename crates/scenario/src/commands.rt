@@ -1,11 +1,12 @@
 // The commands of a scenario.
-ghost use Rattle.std.specs.Prelude.{◌≡◌, ◌∷◌, List, ℕ, IsOk, codes};
+ghost use Rattle.std.specs.Prelude.{◌≡◌, ◌∷◌, List, ℕ, IsOk, Some, codes};
+ghost use Rattle.scenario.specs.declared.Reads.{Reads};
 ghost use Rattle.scenario.specs.declared.makings.Making.{Making};
-ghost use Rattle.scenario.specs.Accumulators.{Makes, Proper};
+ghost use Rattle.scenario.specs.Accumulators.{Makes, Opens, Proper};
 ghost use Rattle.scenario.specs.Names.{command_name};
-ghost use Rattle.scenario.specs.Plain.{Emits};
-ghost use Rattle.scenario.specs.Reading.{Found};
-ghost use Rattle.scenario.specs.Words.{words};
+ghost use Rattle.scenario.specs.Plain.{IsPlain};
+ghost use Rattle.scenario.specs.Reading.{Finds};
+ghost use Rattle.scenario.specs.Words.{words as words_of};
 
 use crate::calls::{Call, read_call};
 use crate::lists::numbers;
@@ -23,7 +24,9 @@ pub enum Command {
 }
 
 // `open [N ..]`
-fn opened(heap: Global, words: &mut Words) -> Result<Vec<u32>, Unread> {
+fn opened(heap: Global, words: &mut Words) -> Result<Vec<u32>, Unread>
+    ensures { Finds result (λ list. Opens list.items (words_of words.old.rest.now)) }
+{
     let list = numbers(heap, words.needed()?)?;
     words.ended()?;
     Ok(list)
@@ -31,9 +34,9 @@ fn opened(heap: Global, words: &mut Words) -> Result<Vec<u32>, Unread> {
 
 // The command of a line, where the accumulator, if there is one, reads these kinds.
 pub fn read(heap: Global, line: &str, reads: Option<Reads>) -> Result<Command, Unread>
-    ensures read { Found result (λ command. (more : List (List ℕ)) × (words line.now ≡ command_name command ∷ more) × Proper reads command more) (Unit {0}) }
-    ensures makes { (making : Making) → (more : List (List ℕ)) → words line.now ≡ codes "make" ∷ more → Makes making more → IsOk result }
-    ensures emits { Emits reads (words line.now) result }
+    ensures read { Finds result (λ command. (more : List (List ℕ)) × (words_of line.now ≡ command_name command ∷ more) × Proper reads command more) }
+    ensures makes { (making : Making) → (more : List (List ℕ)) → words_of line.now ≡ codes "make" ∷ more → Makes making more → IsOk result }
+    ensures emits { (a : Reads) → reads ≡ Some a → IsPlain a.alone (words_of line.now) → IsOk result }
 {
     let mut words = Words::of(line);
     match words.needed()? {

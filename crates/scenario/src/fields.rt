@@ -1,8 +1,9 @@
 // The fields of a call, in any order.
-ghost use Rattle.std.specs.Prelude.{◌≡◌, ◌==◌, ◌||◌, not, length, [], IsSome, IsOkAnd, is_ok, if◌then◌else◌};
+ghost use Rattle.std.specs.Prelude.{◌≡◌, ◌==◌, ◌||◌, not, length, List, ℕ, [], ◌∷◌, ◌++◌, IsSome, IsOkAnd, is_ok, if◌then◌else◌};
 ghost use Rattle.std.specs.Option.{is_some};
 ghost use Rattle.scenario.specs.Plain.{Fieldless};
-ghost use Rattle.scenario.specs.Reading.{Told};
+ghost use Rattle.scenario.specs.Fields.{Texts, texts_of, Gathers};
+ghost use Rattle.scenario.specs.Reading.{Told, Found};
 ghost use Rattle.scenario.specs.Words.{words as words_of};
 
 use crate::Unread;
@@ -49,31 +50,27 @@ impl<'a> Fields<'a> {
         }
     }
 
-    // Where the text of a field of this name is put, of which there is one at most.
-    fn place(&mut self, name: &str) -> Result<&mut Option<&'a str>, Unread> {
+    // Takes a field in, of which there is one at most, but for keys.
+    fn put(&mut self, word: &'a str) -> Result<(), Unread>
+        ensures { Found result (λ _. (ws : List (List ℕ)) → Gathers ws (texts_of self.old) → Gathers (ws ++ word.now ∷ []) (texts_of self.new)) ((ws more : List (List ℕ)) → Gathers ws (texts_of self.old) → (texts : Texts) → Gathers (ws ++ word.now ∷ more) texts → ⊥) }
+    {
+        let (name, text) = word.split_once('=').ok_or(Unread::Malformed)?;
         match name {
-            "values" => Ok(&mut self.values),
-            "groups" => Ok(&mut self.groups),
-            "total" => Ok(&mut self.total),
-            "filter" => Ok(&mut self.filter),
-            "flags" => Ok(&mut self.flags),
-            "room" => Ok(&mut self.room),
+            "values" => fill(&mut self.values, text),
+            "key" => Ok(self.keys.push(text)?),
+            "groups" => fill(&mut self.groups, text),
+            "total" => fill(&mut self.total, text),
+            "filter" => fill(&mut self.filter, text),
+            "flags" => fill(&mut self.flags, text),
+            "room" => fill(&mut self.room, text),
             _ => Err(Unread::Malformed),
         }
     }
 
-    // Takes a field in.
-    fn put(&mut self, word: &'a str) -> Result<(), Unread> {
-        let (name, text) = word.split_once('=').ok_or(Unread::Malformed)?;
-        if name == "key" {
-            return Ok(self.keys.push(text)?);
-        }
-        fill(self.place(name)?, text)
-    }
-
     // The fields that some words are.
     pub(crate) fn of(heap: Global, words: Words<'a>) -> Result<Fields<'a>, Unread>
-        ensures { words_of words.entry.rest.now ≡ [] → IsOkAnd result Fieldless }
+        ensures none { words_of words.entry.rest.now ≡ [] → IsOkAnd result Fieldless }
+        ensures some { Found result (λ fields. Gathers (words_of words.entry.rest.now) (texts_of fields)) ((texts : Texts) → Gathers (words_of words.entry.rest.now) texts → ⊥) }
     {
         let mut fields = Fields::none(heap);
         for word in words {

@@ -3,8 +3,9 @@ ghost use Rattle.std.specs.Prelude.{◌≡◌, ◌≢◌, [], ◌∷◌, ◌++�
 ghost use Rattle.std.specs.List.{AllZip};
 ghost use Rattle.hex.specs.declared.error.FromHexError.TheVariants as hex;
 ghost use Rattle.scenario.specs.declared.Unread.TheVariants.{Malformed, OutOfMemory};
-ghost use Rattle.scenario.specs.Reading.{Told, Found, ReadsNumber, ReadsBytes, enclosed};
-ghost use Rattle.scenario.specs.Words.{words};
+ghost use Rattle.scenario.specs.Reading.{Told, Found, ReadsNumber, SomeUnread, ReadsBytes};
+ghost use Rattle.scenario.specs.Texts.{IsBytes, IsBytesOrNone, IsName, enclosed, field};
+ghost use Rattle.scenario.specs.Words.{words as words_of};
 
 use crate::Unread;
 use crate::words::Words;
@@ -59,17 +60,22 @@ pub(crate) fn bytes_or_none(heap: Global, text: &str) -> Result<Vec<u8>, Unread>
 pub(crate) fn number_named<T: FromStr>(words: &mut Words, name: &str) -> Result<T, Unread>
 where
     T::Err: Drop,
+    ensures { Told result (λ n. (text : List ℕ) × (words_of words.old.rest.now ≡ field name.now text ∷ words_of words.new.rest.now) × ReadsNumber T.from_str_gives text (Ok n)) (IsName name.now → (text : List ℕ) → (more : List (List ℕ)) → words_of words.old.rest.now ≡ field name.now text ∷ more → ReadsNumber T.from_str_gives text (Err Malformed)) }
 {
     number(words.named(name)?)
 }
 
 // The bytes that the next field is, which has to have the name.
-pub(crate) fn bytes_named(heap: Global, words: &mut Words, name: &str) -> Result<Vec<u8>, Unread> {
+pub(crate) fn bytes_named(heap: Global, words: &mut Words, name: &str) -> Result<Vec<u8>, Unread>
+    ensures { Found result (λ v. (text : List ℕ) × (words_of words.old.rest.now ≡ field name.now text ∷ words_of words.new.rest.now) × IsBytes text v.items) (IsName name.now → (text : List ℕ) → (more : List (List ℕ)) → words_of words.old.rest.now ≡ field name.now text ∷ more → (bs : List ℕ) → IsBytes text bs → ⊥) }
+{
     bytes(heap, words.named(name)?)
 }
 
 // The validity bytes that the next field is.
-pub(crate) fn validity_named(heap: Global, words: &mut Words) -> Result<Vec<u8>, Unread> {
+pub(crate) fn validity_named(heap: Global, words: &mut Words) -> Result<Vec<u8>, Unread>
+    ensures { Found result (λ v. (text : List ℕ) × (words_of words.old.rest.now ≡ field (codes "validity") text ∷ words_of words.new.rest.now) × IsBytesOrNone text v.items) ((text : List ℕ) → (more : List (List ℕ)) → words_of words.old.rest.now ≡ field (codes "validity") text ∷ more → (bs : List ℕ) → IsBytesOrNone text bs → ⊥) }
+{
     bytes_or_none(heap, words.named("validity")?)
 }
 
@@ -85,7 +91,7 @@ pub(crate) fn between(text: &str, first: char, last: char) -> Result<&str, Unrea
 pub(crate) fn numbers<T: FromStr + Drop>(heap: Global, text: &str) -> Result<Vec<T>, Unread>
 where
     T::Err: Drop,
-    ensures { Found result (λ v. (inner : List ℕ) × (text.now ≡ enclosed (91 ∷ []) (93 ∷ []) inner) × AllZip (λ word n. ReadsNumber T.from_str_gives word (Ok n)) (words inner) v.items) (Unit {0}) }
+    ensures { Found result (λ v. (inner : List ℕ) × (text.now ≡ enclosed (91 ∷ []) (93 ∷ []) inner) × AllZip (λ word n. ReadsNumber T.from_str_gives word (Ok n)) (words_of inner) v.items) ((inner : List ℕ) → text.now ≡ enclosed (91 ∷ []) (93 ∷ []) inner → SomeUnread T.from_str_gives inner) }
 {
     let mut list = Vec::new(heap);
     for word in Words::of(between(text, '[', ']')?) {

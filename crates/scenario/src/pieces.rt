@@ -1,9 +1,14 @@
 // Columns, as a scenario writes them: by their cells or by their parts.
-ghost use Rattle.std.specs.Prelude.{◌≡◌, ◌≢◌};
+ghost use Rattle.std.specs.Prelude.{◌≡◌, ◌≢◌, [], ◌∷◌, ◌++◌, List, ℕ, map};
+ghost use Rattle.std.specs.List.{AllZip};
 ghost use Rattle.column.specs.declared.Kind.{Kind};
+ghost use Rattle.scenario.specs.Cells.{ColumnText, PartsText};
 ghost use Rattle.scenario.specs.Names.{kind_name};
-ghost use Rattle.scenario.specs.Reading.{Told};
+ghost use Rattle.scenario.specs.Reading.{Told, Found, Finds};
 ghost use Rattle.scenario.specs.Shown.{IsColumnOver};
+ghost use Rattle.scenario.specs.Texts.{IsCountsOrNone, enclosed};
+ghost use Rattle.scenario.specs.Words.{words as words_of};
+ghost use Rattle.scenario.specs.declared.pieces.Parts.{Parts};
 
 use crate::cells::cells;
 use crate::lists::{between, bytes_named, number_named, numbers, validity_named};
@@ -38,7 +43,9 @@ impl Parts {
 }
 
 // The offsets, or no offsets for `none`.
-fn offsets(heap: Global, text: &str) -> Result<Vec<u32>, Unread> {
+fn offsets(heap: Global, text: &str) -> Result<Vec<u32>, Unread>
+    ensures { Finds result (λ v. IsCountsOrNone 32 text.now v.items) }
+{
     if text == "none" {
         return Ok(Vec::new(heap));
     }
@@ -46,7 +53,9 @@ fn offsets(heap: Global, text: &str) -> Result<Vec<u32>, Unread> {
 }
 
 // The parts of a column, in their order.
-fn read_parts(heap: Global, words: &mut Words) -> Result<Parts, Unread> {
+fn read_parts(heap: Global, words: &mut Words) -> Result<Parts, Unread>
+    ensures { Found result (λ parts. (fields : List (List ℕ)) × (words_of words.old.rest.now ≡ fields ++ words_of words.new.rest.now) × PartsText fields parts) ((parts : Parts) → (fields more : List (List ℕ)) → words_of words.old.rest.now ≡ fields ++ more → PartsText fields parts → ⊥) }
+{
     Ok(Parts {
         kind: number_named(words, "kind")?,
         rows: number_named(words, "rows")?,
@@ -57,7 +66,9 @@ fn read_parts(heap: Global, words: &mut Words) -> Result<Parts, Unread> {
 }
 
 // A column by its parts, which stand between braces.
-fn by_parts(heap: Global, text: &str) -> Result<Parts, Unread> {
+fn by_parts(heap: Global, text: &str) -> Result<Parts, Unread>
+    ensures { Finds result (λ parts. (inner : List ℕ) × (text.now ≡ enclosed (123 ∷ []) (125 ∷ []) inner) × PartsText (words_of inner) parts) }
+{
     let mut words = Words::of(between(text, '{', '}')?);
     let parts = read_parts(heap, &mut words)?;
     words.ended()?;
@@ -77,7 +88,9 @@ pub(crate) fn kind_named(name: &str) -> Result<Kind, Unread>
 }
 
 // A column: by its parts, or by its cells, which are of the kind that is read unless another is named.
-fn read_column(heap: Global, text: &str, read: Kind) -> Result<Parts, Unread> {
+fn read_column(heap: Global, text: &str, read: Kind) -> Result<Parts, Unread>
+    ensures { Finds result (λ parts. ColumnText read text.now parts) }
+{
     if text.starts_with('{') {
         return by_parts(heap, text);
     }
@@ -92,12 +105,16 @@ fn read_column(heap: Global, text: &str, read: Kind) -> Result<Parts, Unread> {
 }
 
 // A value column.
-pub(crate) fn read_values(heap: Global, text: &str, reads: Reads) -> Result<Parts, Unread> {
+pub(crate) fn read_values(heap: Global, text: &str, reads: Reads) -> Result<Parts, Unread>
+    ensures { Finds result (λ parts. ColumnText reads.values text.now parts) }
+{
     read_column(heap, text, reads.values)
 }
 
 // The order columns.
-pub(crate) fn read_keys(heap: Global, texts: &[&str], reads: Reads) -> Result<Vec<Parts>, Unread> {
+pub(crate) fn read_keys(heap: Global, texts: &[&str], reads: Reads) -> Result<Vec<Parts>, Unread>
+    ensures { Finds result (λ keys. AllZip (ColumnText reads.keys) (map (λ t. t.now) texts.now) keys.items) }
+{
     let mut keys = Vec::new(heap);
     for text in texts {
         keys.push(read_column(heap, text, reads.keys)?)?;

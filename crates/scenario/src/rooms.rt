@@ -4,7 +4,7 @@ ghost use Rattle.std.specs.Option.{option_copied};
 ghost use Rattle.scenario.specs.declared.rooms.OutputColumn.{OutputColumn};
 ghost use Rattle.scenario.specs.declared.rooms.Buffer.{Buffer};
 ghost use Rattle.scenario.specs.Names.{column_name, buffer_name, has_buffer, part_name};
-ghost use Rattle.scenario.specs.Reading.{Told};
+ghost use Rattle.scenario.specs.Reading.{Told, Tells};
 ghost use Rattle.scenario.specs.Rooms.{RoomFor, Sized};
 
 use crate::Unread;
@@ -103,7 +103,7 @@ fn buffer_named(column: OutputColumn, name: &str) -> Result<Buffer, Unread>
 
 // The output part of a name.
 fn part_named(name: &str) -> Result<OutputPart, Unread>
-    ensures { Told result (λ part. (name.now ≡ part_name part) × IsTrue (has_buffer part.column part.buffer)) (Unit {0}) }
+    ensures { Tells result (λ part. (name.now ≡ part_name part) × IsTrue (has_buffer part.column part.buffer)) }
 {
     let (front, back) = name.split_once('.').ok_or(Unread::Malformed)?;
     let column = column_named(front)?;
@@ -115,7 +115,7 @@ fn part_named(name: &str) -> Result<OutputPart, Unread>
 
 // The room that is written, or as much as is needed where none is.
 pub(crate) fn read_room(text: Option<&str>) -> Result<Room, Unread>
-    ensures { RoomFor (option_copied text.entry) result }
+    ensures { Tells result (λ room. RoomFor (option_copied text.entry) room) }
 {
     let Some(text) = text else {
         return Ok(Room::Exact);

@@ -1,8 +1,9 @@
 // Words: what spaces part, but for those between brackets.
-ghost use Rattle.std.specs.Prelude.{◌≡◌, ◌≢◌, ℕ, ◌+◌, [], ◌∷◌, ◌++◌, length, take, drop};
+ghost use Rattle.std.specs.Prelude.{◌≡◌, ◌≢◌, ℕ, ◌+◌, List, [], ◌∷◌, length, take, drop};
 ghost use Rattle.std.specs.Iterator.{YieldsFirstBy, item_count};
 ghost use Rattle.std.specs.Str.{IsCharBoundary};
 ghost use Rattle.scenario.specs.Reading.{Told};
+ghost use Rattle.scenario.specs.Texts.{IsName, field};
 ghost use Rattle.scenario.specs.Words.{word_length, words};
 
 use crate::Unread;
@@ -66,7 +67,7 @@ impl<'a> Words<'a> {
 
     // The text of the next field, which has to have the name.
     pub(crate) fn named(&mut self, name: &str) -> Result<&'a str, Unread>
-        ensures { Told result (λ text. words self.old.rest.now ≡ (name.now ++ 61 ∷ text.now) ∷ words self.new.rest.now) (Unit {0}) }
+        ensures { Told result (λ text. words self.old.rest.now ≡ field name.now text.now ∷ words self.new.rest.now) (IsName name.now → (text : List ℕ) → (more : List (List ℕ)) → words self.old.rest.now ≢ field name.now text ∷ more) }
     {
         match self.needed()?.split_once('=') {
             Some((found, text)) if found == name => Ok(text),
