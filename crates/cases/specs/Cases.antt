@@ -12,7 +12,7 @@
 --   ascending, descending_nulls_first   two ways to sort keys, the first with nulls last
 --   FIRST, LAST           made so, by ascending keys
 --   blank_parts, blank, bare   buffers of 255s with room for two rows; buffers of no bytes
---   Case                  of a grouped accumulator how it is made, the buffers of each call, the calls with what each results in, and the winners at the end; of an ungrouped one the same with the row that is held at the end, if one is
+--   Case                  of a grouped accumulator how it is made, the buffers of each call, the calls with what each results in, and the winners at the end; of an ungrouped one the same with the row that is held at the end, if one is; or every byte that a call writes behind one batch
 --   case, bare_case       a case whose calls have blank buffers, and one whose calls have buffers of no bytes
 --   taken, filtered, merged   an update without a filter, one with a filter, and a merge with flags, which are done
 --   taken_alone           an update without groups, which is done
@@ -22,10 +22,9 @@
 --   two_held, most_held   two groups, and 256, are taken in, and what is then declined
 --   cases                 the table
 --   calls, calls_alone    the calls of a case with their buffers
---   ComesOut              from nothing on, the calls result in what the case says, and its winners, or its held row, are there at the end
+--   ComesOut              from nothing on, the calls result in what the case says, and its winners, or its held row, are there at the end; or the bytes are these
 --   bytes_by              every output byte of a call of a FIRST that took one batch before, over blank buffers
 --   front                 one row at the front of blank buffers: the byte of its validity bit, and its eight bytes
---   BytesWritten          what an evaluation and a state write, byte by byte
 use Rattle.std.specs.Prelude.{◌≡◌, ℕ, Bool, true, false, List, [], ◌∷◌, ◌++◌, map, length, replicate, pos, Some, None, Option, slice_index_or}
 use Rattle.column.specs.Cells.{numbers, strings, Cell, null, number, text}
 use Rattle.column.specs.Columns.{Column, Flags}
@@ -118,6 +117,7 @@ bare = record { values = record { validity = []; offsets = []; content = [] }; k
 pub data Case : Type 0 where
   grouped : Making → Outputs → List (Call × Result) → List (Option Row) → Case
   ungrouped : Alone → List (Ungrouped.Call × Result) → Option Row → Case
+  written : Batch → Call → Outputs → Case
 
 abbrev pub case : Making → List (Call × Result) → List (Option Row) → Case
 case m steps ends = grouped m blank steps ends
@@ -177,6 +177,13 @@ most_held =
     ∷ (state all, refused (fault SPACE in_state 0 0))
     ∷ (evaluate all, refused (fault SPACE in_state 0 0)) ∷ []
 
+abbrev pub bytes_by : Batch → Call → Outputs
+bytes_by b c = (answer FIRST (book_after FIRST [] ((update b None, blank) ∷ [])) c blank).outputs
+
+-- one row at the front of blank buffers: the byte of its validity bit, and its eight bytes
+abbrev pub front : ℕ → List ℕ → Parts
+front bit bytes = record { validity = bit ∷ 255 ∷ []; offsets = blank_parts.offsets; content = bytes ++ replicate 8 255 }
+
 abbrev pub cases : List Case
 cases =
     -- FIRST keeps the smallest key, and the earliest row that has it
@@ -207,6 +214,14 @@ cases =
     ∷ case (made_by_text true) (taken (record { columns = given_by (row 20 0 ∷ row 10 0 ∷ []) (text_column (abc ∷ ab ∷ [])); indices = 0 ∷ 0 ∷ []; total = 1 }) ∷ []) (Some (cells_row (n 10) (text ab)) ∷ [])
     -- evaluating the first of three groups drops it: what was group 1 is now group 0
     ∷ case FIRST (taken three ∷ (evaluate (first 1), dropped 1) ∷ []) (Some (row 20 5) ∷ Some (row 30 5) ∷ [])
+    -- and it gives 10; no byte of a key or a flag changes
+    ∷ written three (evaluate (first 1)) (record { values = front 1 (10 ∷ 0 ∷ 0 ∷ 0 ∷ 0 ∷ 0 ∷ 0 ∷ 0 ∷ []); keys = blank.keys; flags = blank.flags })
+    -- the state of a group that holds null with the key 1: a set flag, and no byte of the second and third key changes
+    ∷ written null_then_7 (state all) (record {
+      values = front 0 (replicate 8 0);
+      keys = front 1 (1 ∷ 0 ∷ 0 ∷ 0 ∷ 0 ∷ 0 ∷ 0 ∷ 0 ∷ []) ∷ blank_parts ∷ blank_parts ∷ [];
+      flags = record { validity = 1 ∷ 255 ∷ []; bits = 1 ∷ 255 ∷ [] };
+    })
     -- where two groups are held, a total of 1, evaluating the first three and the state of none are refused, and both groups stay
     ∷ case FIRST two_held (Some (row 10 5) ∷ Some (row 20 5) ∷ [])
     -- there may be 256 groups and no more, and none leaves where its value has no room
@@ -226,23 +241,4 @@ ComesOut (grouped m o steps ends) =
 ComesOut (ungrouped a steps end) =
     (map (λ (x : Answer). x.result) (Ungrouped.answers a None (calls_alone steps)) ≡ map (λ s. s.1) steps)
     × (shown_row (Ungrouped.held_after a (calls_alone steps)) ≡ end)
-
--- Bytes
-
-abbrev pub bytes_by : Batch → Call → Outputs
-bytes_by b c = (answer FIRST (book_after FIRST [] ((update b None, blank) ∷ [])) c blank).outputs
-
--- one row at the front of blank buffers: the byte of its validity bit, and its eight bytes
-abbrev pub front : ℕ → List ℕ → Parts
-front bit bytes = record { validity = bit ∷ 255 ∷ []; offsets = blank_parts.offsets; content = bytes ++ replicate 8 255 }
-
-abbrev pub BytesWritten : Type 0
-BytesWritten =
-    -- evaluating a group that holds 10: no byte of a key or a flag changes
-    (bytes_by three (evaluate (first 1)) ≡ record { values = front 1 (10 ∷ 0 ∷ 0 ∷ 0 ∷ 0 ∷ 0 ∷ 0 ∷ 0 ∷ []); keys = blank.keys; flags = blank.flags })
-    -- the state of a group that holds null with the key 1: a set flag, and no byte of the second and third key changes
-    × (bytes_by null_then_7 (state all) ≡ record {
-      values = front 0 (replicate 8 0);
-      keys = front 1 (1 ∷ 0 ∷ 0 ∷ 0 ∷ 0 ∷ 0 ∷ 0 ∷ 0 ∷ []) ∷ blank_parts ∷ blank_parts ∷ [];
-      flags = record { validity = 1 ∷ 255 ∷ []; bits = 1 ∷ 255 ∷ [] };
-    })
+ComesOut (written b c bytes) = bytes_by b c ≡ bytes

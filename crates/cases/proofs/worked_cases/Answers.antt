@@ -3,4 +3,4 @@ use Rattle.cases.proofs.Worked.{worked}
 use Rattle.cases.proofs.worked_cases.Goals as goal
 
 pub returns : goal.returns
-returns c = record { count = refl; hold = worked.0; bytes = worked.1 }
+returns c = record { count = refl; hold = worked }
