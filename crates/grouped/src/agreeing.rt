@@ -44,7 +44,7 @@ impl<S: ValueState, O: RowOrder> FirstLastGroupsAccumulator<S, O> {
     pub fn agrees(&self, other: &Self) -> bool
         ensures holds { Decides result (HoldAlike (winners_shown (held self.now)) (winners_shown (held other.now))) }
         ensures decides { WinnersDecideOf self.now other.now }
-        ensures defined { AnswersDefined self.now }
+        ensures defined { AnswersDefined self.now × AnswersDefined other.now }
     {
         self.same_winners(other)
     }

@@ -7,5 +7,5 @@ returns g c =
     record {
       holds = c.same_winners.ensures;
       decides = winners_decide_of g.met.S.ValueState.lawful g.met.O.RowOrder.lawful a c.args.other.now;
-      defined = answers_defined a;
+      defined = (answers_defined a, answers_defined c.args.other.now);
     }
