@@ -32,29 +32,33 @@ fn feed(rt: &HostRuntime, batches: &[&[Hit]]) -> anyhow::Result<Pair> {
     Ok(pair)
 }
 
-// Shows the top rows of the deciding batch, and whether the pair must hold the same.
-fn foretell(rt: &HostRuntime, batches: &[&[Hit]]) -> anyhow::Result<()> {
-    if let Some(tops) = Tops::of(batches) {
-        let Tops { batch, first, last } = tops;
-        let (first, last) = (first.rule, last.rule);
-        println!(rt;
-            "  batch {batch} decides: its first top row is {first}, and its last is {last}"
-        )?;
-        if tops.agree() {
-            println!(rt; "  they agree in value and key, so both LASTs must hold the same")?;
-        } else {
-            println!(rt; "  they do not agree in value and key, so the two LASTs must part")?;
-        }
+// Shows the top rows of the deciding batch: whether the pair must hold the same.
+fn foretell(rt: &HostRuntime, batches: &[&[Hit]]) -> anyhow::Result<bool> {
+    let Some(tops) = Tops::of(batches) else {
+        println!(rt; "  no row was admitted, so both LASTs must hold the same")?;
+        return Ok(true);
+    };
+    let Tops { batch, first, last } = tops;
+    let (first, last) = (first.rule, last.rule);
+    println!(rt; "  batch {batch} decides: its first top row is {first}, and its last is {last}")?;
+    let same = tops.agree();
+    if same {
+        println!(rt; "  they agree in value and key, so both LASTs must hold the same")?;
+    } else {
+        println!(rt; "  they do not agree in value and key, so the two LASTs must part")?;
     }
-    Ok(())
+    Ok(same)
 }
 
-// Asks the pair whether both hold the same.
-fn ask(rt: &HostRuntime, pair: &Pair) -> anyhow::Result<()> {
-    if pair.hold_same() {
-        println!(rt; "  asked whether they hold the same, they answer yes")?;
+// Asks the pair whether both hold the same, and compares that with what must be.
+fn ask(rt: &HostRuntime, pair: &Pair, foretold: bool) -> anyhow::Result<()> {
+    let same = pair.hold_same();
+    let answer = if same { "yes" } else { "no" };
+    println!(rt; "  asked whether they hold the same, they answer {answer}")?;
+    if same == foretold {
+        println!(rt; "  that is what the theorem says of these batches")?;
     } else {
-        println!(rt; "  asked whether they hold the same, they answer no")?;
+        println!(rt; "  that is not what the theorem says of these batches")?;
     }
     Ok(())
 }
@@ -77,8 +81,8 @@ fn release(rt: &HostRuntime, picks: Picks) -> anyhow::Result<()> {
 // Some batches for both LASTs, up to the midnight at which the event is settled.
 fn settle(rt: &HostRuntime, batches: &[&[Hit]]) -> anyhow::Result<()> {
     let mut pair = feed(rt, batches)?;
-    foretell(rt, batches)?;
-    ask(rt, &pair)?;
+    let foretold = foretell(rt, batches)?;
+    ask(rt, &pair, foretold)?;
     let picks = pair.settle(rt.alloc())?;
     release(rt, picks)
 }
