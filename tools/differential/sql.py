@@ -1,14 +1,19 @@
 #!/usr/bin/env python3
 """Has SQLite judge a program's answers where it can.
 
-    sql.py --program PROGRAM --generate PROGRAM [--seed N] [--random N] [--grouped]
+    sql.py --program PROGRAM --generate PROGRAM [--original PROGRAM] [--seed N] [--random N] [--grouped]
 
 The rows of every batch that was taken are put into a table; at each `evaluate` and `state` that was answered, FIRST_VALUE or
 LAST_VALUE over that table, ordered by the scenario's own keys with ASC or DESC and NULLS FIRST or NULLS LAST, says which value,
 key and flag each group must have. SQL leaves ties open: arrival stands in the order as the last key, turned so that the tie
-is settled as the stage settles it (by groups the earliest row; LAST without groups the latest row of the earliest batch).
-Filters and flags are judged by SQL's own WHERE, nulls among them. An accumulator that takes its rows as ordered is judged
-where SQL says that they came in order. Refusals, conversions and the layout of bytes are not SQL's, and are not judged.
+is settled as the stage settles it (FIRST, and LAST by groups, the earliest row; LAST without groups the latest row of the
+earliest batch, and where its rows are said to come in order the latest row of all). Filters and flags are judged by SQL's own
+WHERE, nulls among them. An accumulator that takes its rows as ordered is judged where SQL says that the rows of its updates came
+in order; rows that were merged are promised no order, and may stand anywhere. Refusals, conversions and the layout of bytes
+are not SQL's, and are not judged.
+
+With --original, the driver of the original answers too, and the emissions at which it differs under a name are counted: how many
+were judged, and in how many of these SQL, with its ties left open, could answer as the original does. Each name must be judged.
 """
 
 import argparse
@@ -18,6 +23,7 @@ import subprocess
 import sys
 import tempfile
 import time
+from collections import Counter
 
 from scenarios import cells_of_parts, column, fields, hex_bytes, is_command, marks, scenarios, words
 
@@ -63,7 +69,8 @@ class Judge:
         self.table.executemany(f"INSERT INTO rows VALUES ({places})", rows)
 
     def arrival(self):
-        """Arrival as the last key of the order."""
+        """Arrival as the last key of the order. FIRST gives way to no tie, nor does LAST by groups; LAST without groups takes the
+        latest tied row of a batch, and gives way to a later tied batch where its rows are said to come in order, merged or not."""
         if self.ordered or self.first:
             return "batch ASC, row ASC"
         return "batch DESC, row DESC" if self.grouped else "batch DESC, row ASC"
@@ -86,10 +93,11 @@ class Judge:
         return {group: cells for group, *cells in self.table.execute(text, (leaving,))}
 
     def in_order(self):
-        """Whether the rows came in the order of their keys, as was promised."""
+        """Whether the rows of updates came in the order of their keys, as was promised; of merged rows nothing is."""
         keys = ", ".join(f"key{i} {option}" for i, option in enumerate(self.options))
         text = f"""SELECT COUNT(*) FROM (SELECT ROW_NUMBER() OVER (ORDER BY {keys}, batch, row) AS sorted,
-            ROW_NUMBER() OVER (ORDER BY batch, row) AS came FROM rows WHERE {self.admitted()}) WHERE sorted <> came"""
+            ROW_NUMBER() OVER (ORDER BY batch, row) AS came FROM rows WHERE ({self.admitted()}) AND NOT merged)
+            WHERE sorted <> came"""
         return self.table.execute(text).fetchone()[0] == 0
 
     def drop(self, leaving):
@@ -105,6 +113,23 @@ class Judge:
         rows = [winners.get(group, missing) for group in range(leaving)]
         shown = [list(cells) for cells in zip(*rows)] or [[] for _ in missing]
         return shown[:1] if word == "evaluate" else shown + [[int(group in winners) for group in range(leaving)]]
+
+    def tied(self, group, winner):
+        """The value, key and flag of each row with the key of a group's winner; where there is none, what an unset group shows."""
+        if winner is None:
+            return [(None,) * (1 + len(self.options)) + (0,)]
+        names = [f"key{i}" for i in range(len(self.options))]
+        text = f"""SELECT value, {', '.join(names)}, 1 FROM rows WHERE ({self.admitted()}) AND grp = ?
+            AND {' AND '.join(f'{name} IS ?' for name in names)}"""
+        return self.table.execute(text, (group, *winner[1:])).fetchall()
+
+    def allows(self, columns):
+        """Whether SQL, with ties left open, could answer these columns of an emission."""
+        winners = self.winners(len(columns[0]))
+        return all(
+            any(row[: len(cells)] == cells for row in self.tied(group, winners.get(group)))
+            for group, cells in enumerate(zip(*columns))
+        )
 
 
 def shown_column(parts, name, kind, rows):
@@ -124,10 +149,29 @@ def shown(judge, word, answer, rows):
     return columns
 
 
-def judge_scenario(lines, answers, counts):
-    """Judges the answers to a scenario; answers the first line that SQL contradicts, with what it says."""
+def judge_emission(judge, word, answer, original, counts):
+    """Judges an emission; answers what SQL says where that is something else, and whether a tie alone makes it so, or None. Of the
+    original's answer only the name of a difference is looked at, and whether SQL could answer so in a tie."""
+    leaving = int(dict(fields(answer)).get("dropped", 1))
+    theirs, *named = original.split(" ## ")
+    names = ["pre-ordered"] * judge.ordered + named[:1]
+    if judge.ordered and not judge.in_order():
+        counts.update((name, "left out") for name in names)
+        return None
+    wanted, found = judge.wanted(word, leaving), shown(judge, word, answer, leaving)
+    if wanted != found:
+        return wanted, judge.allows(found)
+    counts.update(emissions=1, winners=leaving)
+    counts.update((name, "judged") for name in names)
+    if named and theirs.startswith("ok") and judge.allows(shown(judge, word, theirs, leaving)):
+        counts[named[0], "open"] += 1
+    return None
+
+
+def judge_scenario(lines, answers, originals, counts):
+    """Judges the answers to a scenario; answers the first line that SQL contradicts, what SQL says, and whether in a tie alone."""
     judge = None
-    for line, answer in zip(filter(is_command, lines), answers):
+    for line, answer, original in zip(filter(is_command, lines), answers, originals):
         word = words(line)[0]
         answer = answer.split(" ## ")[-1]
         if answer == "made":
@@ -135,49 +179,69 @@ def judge_scenario(lines, answers, counts):
         elif word in ("update", "merge") and answer == "ok":
             judge.take(word, fields(line))
         elif word in ("evaluate", "state") and answer.startswith("ok"):
-            dropped = dict(fields(answer)).get("dropped")
-            leaving = 1 if dropped is None else int(dropped)
-            if judge.ordered and not judge.in_order():
-                counts["not in order"] += 1
-            else:
-                wanted = judge.wanted(word, leaving)
-                if wanted != shown(judge, word, answer, leaving):
-                    return line, answer, wanted
-                counts["emissions"] += 1
-                counts["winners"] += leaving
+            if contradicted := judge_emission(judge, word, answer, original, counts):
+                return line, answer, *contradicted
             if judge.grouped:
-                judge.drop(leaving)
+                judge.drop(int(dict(fields(answer))["dropped"]))
     return None
+
+
+def answers_of(program, text):
+    """The answers of a program to scenarios."""
+    with tempfile.TemporaryFile() as stdin:
+        stdin.write(text)
+        stdin.seek(0)
+        run = subprocess.run([program], stdin=stdin, stdout=subprocess.PIPE, stderr=subprocess.DEVNULL, text=True)
+    return iter(run.stdout.splitlines())
+
+
+def judge_family(options, arguments, counts):
+    """Judges the answers to all scenarios of a family."""
+    text = subprocess.run([options.generate, *arguments], stdout=subprocess.PIPE, check=True).stdout
+    answers = answers_of(options.program, text)
+    originals = answers_of(options.original, text) if options.original else itertools.repeat("")
+    for heading, lines in scenarios(text.decode().splitlines()):
+        commands = sum(map(is_command, lines))
+        given, beside = (list(itertools.islice(source, commands)) for source in (answers, originals))
+        if min(len(given), len(beside)) < commands:
+            sys.exit("a program ended before it had answered all")
+        if options.grouped and any("make single" in line for line in lines):
+            continue
+        counts["scenarios"] += 1
+        if contradicted := judge_scenario(lines, given, beside, counts):
+            print("\n".join([heading, *lines]))
+            line, answer, wanted, tie = contradicted
+            what = "a tie is settled otherwise than the rules say" if tie else "SQL contradicts"
+            sys.exit(f"{what}: {line}\n    answer: {answer}\n    SQL:    {wanted}")
+
+
+def report(counts, seconds):
+    """Says what was judged; each name of a difference must be."""
+    print(f"SQLite {sqlite3.sqlite_version}: {counts['scenarios']} scenarios in {seconds:.0f} s, no contradiction")
+    print(f"judged: {counts['emissions']} emissions, {counts['winners']} winners")
+    names = sorted({key[0] for key in counts if isinstance(key, tuple)})
+    for name in names:
+        judged, left_out, tied = (counts[name, sort] for sort in ("judged", "left out", "open"))
+        ties = "" if name == "pre-ordered" else f" ({tied} by a tie that SQL leaves open)"
+        print(f"{name}: {judged} judged{ties}, {left_out} left out since the rows of updates did not come in order")
+    for part in sorted({part for name in names for part in name.split("+")}):
+        if not any(counts[name, "judged"] for name in names if part in name.split("+")):
+            sys.exit(f"{part}: no emission was judged")
 
 
 def main():
     parser = argparse.ArgumentParser(description=__doc__.splitlines()[0])
     parser.add_argument("--program", required=True)
     parser.add_argument("--generate", required=True)
+    parser.add_argument("--original", help="the driver of the original, whose named differences are then counted")
     parser.add_argument("--seed", type=int, default=1)
-    parser.add_argument("--random", type=int, default=5_000)
+    parser.add_argument("--random", type=int, default=20_000)
     parser.add_argument("--grouped", action="store_true", help="leave out accumulators without groups")
     options = parser.parse_args()
-    counts = {"emissions": 0, "winners": 0, "not in order": 0}
-    start, total = time.time(), 0
+    counts, start = Counter(), time.time()
     for arguments in (["limits"], ["short"], ["random", str(options.seed), str(options.random)]):
-        text = subprocess.run([options.generate, *arguments], stdout=subprocess.PIPE, check=True).stdout
-        with tempfile.TemporaryFile() as stdin:
-            stdin.write(text)
-            stdin.seek(0)
-            run = subprocess.run([options.program], stdin=stdin, stdout=subprocess.PIPE, text=True)
-        answers = iter(run.stdout.splitlines())
-        for heading, lines in scenarios(text.decode().splitlines()):
-            given = list(itertools.islice(answers, sum(map(is_command, lines))))
-            if options.grouped and any("make single" in line for line in lines):
-                continue
-            contradicted = judge_scenario(lines, given, counts)
-            total += 1
-            if contradicted:
-                print("\n".join([heading, *lines]))
-                sys.exit("SQL contradicts: {}\n    answer: {}\n    SQL:    {}".format(*contradicted))
-    print(f"SQLite {sqlite3.sqlite_version}: {total} scenarios in {time.time() - start:.0f} s, no contradiction")
-    print(", ".join(f"{count} {name}" for name, count in counts.items()))
+        judge_family(options, arguments, counts)
+    report(counts, time.time() - start)
 
 
 if __name__ == "__main__":

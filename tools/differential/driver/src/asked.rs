@@ -131,6 +131,8 @@ impl Asked {
         if let Some(row) = making.picked(&eligible, making.pre_ordered && !merges) {
             let asked = self.rules.stores(making, &row, merges, false);
             let known = self.known.stores(making, &row, merges, true);
+            // (whether the original does at this row, over what it holds, what the rules do not ask)
+            let errs = known != self.known.stores(making, &row, merges, false);
             if asked {
                 self.rules.held = Some((row.clone(), merges));
             }
@@ -138,7 +140,7 @@ impl Asked {
                 self.known.held = Some((row, merges));
             }
             let name = if merges { OLDER_MERGED } else { NOT_COMPARED };
-            if asked != known && !self.names.contains(&name) {
+            if errs && !self.names.contains(&name) {
                 self.names.push(name);
             }
             if self.rules == self.known {

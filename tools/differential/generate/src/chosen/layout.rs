@@ -58,6 +58,14 @@ pub fn rooms(each: Each) {
 
 /// Columns by their parts: what fits, and each way in which parts do not.
 pub fn parts(each: Each) {
+    parts_of_numbers(each);
+    parts_of_strings(each);
+    parts_of_records(each);
+    parts_of_marks(each);
+}
+
+/// Numbers by their parts: the kind's number, validity, offsets that are foreign, and too little and too much data.
+fn parts_of_numbers(each: Each) {
     let numbers = [
         "{kind=1 rows=1 validity=none offsets=none data=x0700000000000000}",
         "{kind=1 rows=1 validity=xff offsets=none data=x0700000000000000}",
@@ -72,6 +80,13 @@ pub fn parts(each: Each) {
         "{kind=1 rows=1025 validity=none offsets=none data=x}",
         "{kind=1 rows=18446744073709551615 validity=none offsets=none data=x}",
     ];
+    for column in numbers {
+        each(parts_of_one("number", "1", column));
+    }
+}
+
+/// Byte strings by their parts: where offsets begin, how many they are, that they fall, and that they point past the data.
+fn parts_of_strings(each: Each) {
     let strings = [
         "{kind=2 rows=2 validity=none offsets=[2 3 3] data=x00616200}",
         "{kind=2 rows=2 validity=xfd offsets=[0 1 3] data=x616263}",
@@ -84,6 +99,13 @@ pub fn parts(each: Each) {
         "{kind=2 rows=0 validity=none offsets=none data=x}",
         "{kind=2 rows=2 validity=none offsets=[0 1 2 2] data=x6162}",
     ];
+    for column in strings {
+        each(parts_of_one("bytes", "2", column));
+    }
+}
+
+/// Records by their parts, there and null: presence bits, and bytes under absent fields.
+fn parts_of_records(each: Each) {
     let record = |presence: &str, first: &str| {
         format!(
             "{{kind=3 rows=1 validity=VALID offsets=none data=x{presence}{first}{}}}",
@@ -99,18 +121,15 @@ pub fn parts(each: Each) {
         record("00", "0000000000000001"),
         record("06", "0100000000000000"),
     ];
-    for column in numbers {
-        each(parts_of_one("number", "1", column));
-    }
-    for column in strings {
-        let rows = "2";
-        each(parts_of_one("bytes", rows, column));
-    }
     for column in records {
         for valid in ["none", "x00"] {
             each(parts_of_one("record", "1", &column.replace("VALID", valid)));
         }
     }
+}
+
+/// Columns of truth values by their parts, as a filter and as flags.
+fn parts_of_marks(each: Each) {
     let marks = [
         "{rows=1 bits=xff validity=none}",
         "{rows=1 bits=xff validity=xfe}",

@@ -53,38 +53,47 @@ pub fn rows(each: Each) {
 pub fn groups(each: Each) {
     for total in [0, 1, 2, 8, 9, 255, 256, 257] {
         for value in KINDS {
-            let (order, key) = ORDERS[usize::from(value == "record")];
-            let mut lines = vec![
-                format!("make grouped first {value} {order}"),
-                "open [0 1 254 255 256 257 4294967294 4294967295]".to_string(),
-                format!("update values=[] key=[] groups=[] total={total}"),
-                "evaluate 0".to_string(),
-                "state 0".to_string(),
-                format!("state {}", total + 1),
-            ];
-            if total > 0 {
-                let last = total - 1;
-                let cell = sample(value);
-                lines.push(format!(
-                    "update values=[{cell}] key=[{key}] groups=[{last}] total={total}"
-                ));
-                lines.push(format!(
-                    "update values=[{cell}] key=[{key}] groups=[{total}] total={total}"
-                ));
-                lines.push(format!("update values=[] key=[] groups=[] total={last}"));
-                lines.push(format!(
-                    "merge values=[] key=[] groups=[] total={last} flags=[]"
-                ));
-                lines.push(format!("state {last} room=+1"));
-                lines.push("update values=[] key=[] groups=[] total=0".to_string());
-            }
-            lines.push("state all".to_string());
-            lines.push("evaluate all".to_string());
-            lines.push("evaluate 1".to_string());
-            each(lines);
+            each(around_a_total(total, value));
         }
     }
-    // Every group set, by as many rows as a batch may have, and strings as long as they may be where they win.
+    every_group(each);
+}
+
+/// Calls around a number of groups, of which the last alone is set.
+fn around_a_total(total: usize, value: &str) -> Vec<String> {
+    let (order, key) = ORDERS[usize::from(value == "record")];
+    let mut lines = vec![
+        format!("make grouped first {value} {order}"),
+        "open [0 1 254 255 256 257 4294967294 4294967295]".to_string(),
+        format!("update values=[] key=[] groups=[] total={total}"),
+        "evaluate 0".to_string(),
+        "state 0".to_string(),
+        format!("state {}", total + 1),
+    ];
+    if total > 0 {
+        let last = total - 1;
+        let cell = sample(value);
+        lines.push(format!(
+            "update values=[{cell}] key=[{key}] groups=[{last}] total={total}"
+        ));
+        lines.push(format!(
+            "update values=[{cell}] key=[{key}] groups=[{total}] total={total}"
+        ));
+        lines.push(format!("update values=[] key=[] groups=[] total={last}"));
+        lines.push(format!(
+            "merge values=[] key=[] groups=[] total={last} flags=[]"
+        ));
+        lines.push(format!("state {last} room=+1"));
+        lines.push("update values=[] key=[] groups=[] total=0".to_string());
+    }
+    lines.push("state all".to_string());
+    lines.push("evaluate all".to_string());
+    lines.push("evaluate 1".to_string());
+    lines
+}
+
+/// Every group set, by as many rows as a batch may have, and strings as long as they may be where they win.
+fn every_group(each: Each) {
     for end in ENDS {
         let longest = if end == "first" { 0 } else { 3 };
         let length = |row: usize| if row / 256 == longest { 32 } else { 1 };
