@@ -5,6 +5,7 @@
 --   group          the rows of group 0 of a book; none where it is not held yet
 --   fed, fed_all   the book after a batch, and after some
 --   brought        the rows that each batch brought to group 0
+--   or_else        these rows, or the others where there are none
 --   of_the_first   of the rows with a property, those that the first batch brought which brought any
 --   deciding_tops  the top rows of group 0 that the deciding batch brought, the first that brought a top row
 --   TiesDecide     the winner of group 0 is what the ungrouped one holds exactly when no row was admitted, or the first and the last top row of the deciding batch agree
