@@ -18,8 +18,8 @@ use Rattle.book.specs.Batches.{Book, Given, Batch, order_columns, every_row, row
 use Rattle.book.specs.Declines.{cols, batch_declined}
 use Rattle.book.specs.Emission.{Outputs}
 use Rattle.book.specs.Calls.{Call, update, merge, convert, evaluate, state, declined, taken_in, after, book_after}
-use Rattle.checks.proofs.Checking.{cols_read, refuse_none}
-use Rattle.checks.proofs.Passing.{passed}
+use Rattle.keeping.proofs.Checking.{cols_read, refuse_none}
+use Rattle.keeping.proofs.Passing.{passed}
 
 all_counted : (P : ℕ → Type 0) (s n : ℕ) → ((r : ℕ) → r < s + n → P r) → All P (count_up s n)
 all_counted P s zero h = All-nil P

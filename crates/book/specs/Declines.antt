@@ -6,6 +6,7 @@
 --   kind_check, rows_check, long_check   KIND, ROWS and LONG in one order column
 --   cols, kind, rows, long   the checks COLS, KIND, ROWS and LONG: the value column first, then the order columns, then the filter
 --   flag_rows           how many rows a filter has; without one, as many as are asked for
+--   total_refused       TOTAL and SHRUNK, where `held` groups are held
 --   batch_checks, batch_declined   all checks of a batch in their order, where `held` groups are held, and the first that holds
 --   null_flag           FLAGS at the lowest row whose flag is null; an update has no flags
 --   ungrouped_checks, ungrouped_declined   the same of a batch without groups: an update, or a merge by its flags
@@ -71,6 +72,9 @@ unfoldable pub long : Making → Given → Option Fault
 long m g =
     first_of (at_row (λ r. not (m.state.takes (cell_at g.value r))) (λ r. fault LONG in_state 0 r) (every_row g)
     ∷ at_column (long_check m.order.takes (every_row g)) 0 (order_columns g) ∷ [])
+
+abbrev pub total_refused : ℕ → ℕ → Option Fault
+total_refused held total = first_of (refuse (nat_lt 256 total) (own TOTAL) ∷ refuse (nat_lt total held) (own SHRUNK) ∷ [])
 
 abbrev pub batch_checks : Making → ℕ → Batch → Option Flags → List (Option Fault)
 batch_checks m held b marks =

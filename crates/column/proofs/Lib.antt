@@ -1,3 +1,3 @@
 pub mod Little
 pub mod Records
-pub mod Rising
+pub mod Octets

@@ -4,3 +4,4 @@ pub mod Cells
 pub mod Columns
 pub mod Shapes
 pub mod Seen
+pub mod Views

@@ -1,5 +1,6 @@
 // A refusal as text.
 use crate::ColumnFault;
+use std::error::Error;
 use std::fmt;
 
 impl fmt::Display for ColumnFault {
@@ -12,3 +13,5 @@ impl fmt::Display for ColumnFault {
         write!(f, "{} layer={}", self.number(), self.layer())
     }
 }
+
+impl Error for ColumnFault {}

@@ -1,7 +1,7 @@
 // Making a column: KIND, then SHAPE.
 ghost use Rattle.std.specs.Prelude.{◌≡◌, ◌/◌, ◌<◌, ◌≤◌, length, not, ◌&&◌};
 ghost use Rattle.column.specs.Checks.{outcome, refuse};
-ghost use Rattle.column.specs.Shapes.{known_kind, field_fits, record_fits, records_fit, parts_fit, bits_fit, validity_fits, shape_fits, column_refused, flags_refused};
+ghost use Rattle.column.specs.Shapes.{known_kind, rises, field_fits, record_fits, records_fit, parts_fit, bits_fit, validity_fits, shape_fits, column_refused, flags_refused};
 ghost use Rattle.column.specs.declared.ColumnFault.TheVariants as faults;
 ghost use Rattle.column.specs.Seen.{kind_seen, kind_coded, column_over, flags_over};
 
@@ -13,7 +13,7 @@ impl TryFrom<u32> for Kind {
 
     ghost try_from_gives = { λ code r. r ≡ outcome (refuse (not (known_kind code)) faults.Kind) (kind_coded code) };
 
-    // The kind that a number stands for.
+    /// The kind that a number stands for: KIND where there is none.
     fn try_from(code: u32) -> Result<Kind, ColumnFault> {
         match code {
             1 => Ok(Kind::Number),
@@ -68,6 +68,18 @@ fn validity_fits(validity: &[u8], rows: usize) -> bool
     validity.is_empty() || bits_fit(validity, rows)
 }
 
+// Whether each offset up to that of row `rows` is at most the next. Without an early exit, so that several are compared at once.
+fn rises(offsets: &[u32], rows: usize) -> bool
+    requires { rows < length offsets.now }
+    ensures { result ≡ rises offsets.now rows }
+{
+    let mut rising = true;
+    for r in 0..rows {
+        rising &= offsets[r] <= offsets[r + 1];
+    }
+    rising
+}
+
 impl<'a> Column<'a> {
     // Whether offsets and data fit the kind and the rows.
     fn parts_fit(&self) -> bool
@@ -78,7 +90,7 @@ impl<'a> Column<'a> {
             Kind::Number => self.offsets.is_empty() && self.data.len() == 8 * self.rows,
             Kind::Bytes => {
                 self.offsets.len() == self.rows + 1
-                    && self.offsets.is_sorted()
+                    && rises(self.offsets, self.rows)
                     && self.offsets[self.rows] as usize <= self.data.len()
             }
             Kind::Record => {
@@ -96,8 +108,10 @@ impl<'a> Column<'a> {
         self.rows <= 1024 && validity_fits(self.validity, self.rows) && self.parts_fit()
     }
 
-    // The column over the caller's parts; `kind` is 1 for numbers, 2 for byte strings, 3 for records.
-    // By a rule of the project the kind comes as a number, so that an unknown one can be declined.
+    /// The column over the caller's parts, of at most 1,024 rows; `kind` is 1 for numbers, 2 for byte strings, 3 for records.
+    /// A number, since users are given the numbers of the kinds, and an unknown one is to be declined.
+    ///
+    /// Declines with KIND where no kind has that number, and then with SHAPE where the parts do not fit the kind and the rows.
     pub fn new(
         kind: u32,
         rows: usize,
@@ -122,7 +136,9 @@ impl<'a> Column<'a> {
 }
 
 impl<'a> BoolColumn<'a> {
-    // The boolean column over the caller's parts.
+    /// The boolean column over the caller's parts, of at most 1,024 rows: no validity bytes, or a bit for each row, and a value bit for each row.
+    ///
+    /// Declines with SHAPE where the parts do not fit the rows.
     pub fn new(
         rows: usize,
         validity: &'a [u8],

@@ -1,11 +1,11 @@
-// The number and the layer of a column's refusal, as the project's rules give them to users.
+// The number and the layer of a column's refusal, as users see them.
 ghost use Rattle.std.specs.Prelude.{◌≡◌};
 ghost use Rattle.column.specs.Faults.{column_number, in_column};
 
 use crate::ColumnFault;
 
 impl ColumnFault {
-    // The refusal's number.
+    /// The refusal's number.
     pub fn number(&self) -> u8
         ensures { result ≡ column_number self.now }
     {
@@ -15,7 +15,7 @@ impl ColumnFault {
         }
     }
 
-    // The layer that the refusal comes from.
+    /// The layer that the refusal comes from.
     pub fn layer(&self) -> u8
         ensures { result ≡ in_column }
     {

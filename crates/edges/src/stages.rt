@@ -1,12 +1,10 @@
 // Stages to be tested, what they decline, and columns for them.
-use byte_values::BytesValueState;
 use column::{Column, Kind};
 use faults::Fault;
 use grouped::FirstLastGroupsAccumulator;
-use orders::NumberOrder;
+use orders::{NumberOrder, TextOrder};
 use tables::Sorting;
-use text_orders::TextOrder;
-use values::NumberValueState;
+use values::{BytesValueState, NumberValueState};
 
 // A stage of numbers by numbers.
 pub type Numbers = FirstLastGroupsAccumulator<NumberValueState, NumberOrder>;

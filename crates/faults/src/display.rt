@@ -1,5 +1,6 @@
 // A refusal as text.
 use crate::Fault;
+use std::error::Error;
 use std::fmt;
 
 impl fmt::Display for Fault {
@@ -19,3 +20,5 @@ impl fmt::Display for Fault {
         )
     }
 }
+
+impl Error for Fault {}

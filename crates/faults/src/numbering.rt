@@ -1,102 +1,100 @@
-// The number and the layer of a refusal, as the project's rules give them to users.
-ghost use Rattle.std.specs.Prelude.{◌≡◌, ℕ};
+// The number and the layer of a refusal, as users see them.
+ghost use Rattle.std.specs.Prelude.{◌≡◌};
 ghost use Rattle.tables.specs.Numbered.{table_number, state_number, order_number};
-ghost use Rattle.faults.specs.Reported.{own_number, number_of, fault_seen};
+ghost use Rattle.faults.specs.Reported.{own_number, fault_seen};
 
 use crate::{Fault, OwnFault, Refusal};
 use tables::{OrderFault, StateFault, TableFault};
 
-// A refusal that has a number.
-trait Numbered {
-    ghost numbered: { Self → ℕ };
+// The number of each refusal, whichever layer it comes from. A column's refusals, 1 and 2, come before any accumulator.
+const KIND: u8 = 1;
 
-    // The refusal's number.
-    fn number(&self) -> u8
-        ensures { result ≡ numbered self.now };
-}
+const ROWS: u8 = 3;
 
-impl Numbered for TableFault {
-    ghost numbered = { table_number };
+const COLS: u8 = 4;
 
-    fn number(&self) -> u8 {
-        match self {
-            TableFault::Total => 6,
-            TableFault::Shrunk => 10,
-            TableFault::Fewer => 11,
-        }
+const LONG: u8 = 5;
+
+const TOTAL: u8 = 6;
+
+const GROUP: u8 = 7;
+
+const SPACE: u8 = 8;
+
+const FLAGS: u8 = 9;
+
+const SHRUNK: u8 = 10;
+
+const FEWER: u8 = 11;
+
+const EMPTY: u8 = 12;
+
+fn table_number(fault: TableFault) -> u8
+    ensures { result ≡ table_number fault }
+{
+    match fault {
+        TableFault::Total => TOTAL,
+        TableFault::Shrunk => SHRUNK,
+        TableFault::Fewer => FEWER,
     }
 }
 
-impl Numbered for StateFault {
-    ghost numbered = { state_number };
-
-    fn number(&self) -> u8 {
-        match self {
-            StateFault::Table(fault) => fault.number(),
-            StateFault::Group => 7,
-            StateFault::Kind => 1,
-            StateFault::Rows => 3,
-            StateFault::Long => 5,
-            StateFault::Space => 8,
-        }
+fn state_number(fault: StateFault) -> u8
+    ensures { result ≡ state_number fault }
+{
+    match fault {
+        StateFault::Table(fault) => table_number(fault),
+        StateFault::Group => GROUP,
+        StateFault::Kind => KIND,
+        StateFault::Rows => ROWS,
+        StateFault::Long => LONG,
+        StateFault::Space => SPACE,
     }
 }
 
-impl Numbered for OrderFault {
-    ghost numbered = { order_number };
-
-    fn number(&self) -> u8 {
-        match self {
-            OrderFault::Table(fault) => fault.number(),
-            OrderFault::Cols => 4,
-            OrderFault::Group => 7,
-            OrderFault::Kind => 1,
-            OrderFault::Rows => 3,
-            OrderFault::Long => 5,
-            OrderFault::Space => 8,
-        }
+fn order_number(fault: OrderFault) -> u8
+    ensures { result ≡ order_number fault }
+{
+    match fault {
+        OrderFault::Table(fault) => table_number(fault),
+        OrderFault::Cols => COLS,
+        OrderFault::Group => GROUP,
+        OrderFault::Kind => KIND,
+        OrderFault::Rows => ROWS,
+        OrderFault::Long => LONG,
+        OrderFault::Space => SPACE,
     }
 }
 
-impl Numbered for OwnFault {
-    ghost numbered = { own_number };
-
-    fn number(&self) -> u8 {
-        match self {
-            OwnFault::Cols => 4,
-            OwnFault::Rows => 3,
-            OwnFault::Total => 6,
-            OwnFault::Shrunk => 10,
-            OwnFault::Group => 7,
-            OwnFault::Space => 8,
-            OwnFault::Flags => 9,
-            OwnFault::Fewer => 11,
-            OwnFault::Empty => 12,
-        }
-    }
-}
-
-impl Numbered for Refusal {
-    ghost numbered = { number_of };
-
-    fn number(&self) -> u8 {
-        match self {
-            Refusal::State(fault) => fault.number(),
-            Refusal::Order(fault) => fault.number(),
-            Refusal::Own(fault) => fault.number(),
-        }
+fn own_number(fault: OwnFault) -> u8
+    ensures { result ≡ own_number fault }
+{
+    match fault {
+        OwnFault::Cols => COLS,
+        OwnFault::Rows => ROWS,
+        OwnFault::Total => TOTAL,
+        OwnFault::Shrunk => SHRUNK,
+        OwnFault::Group => GROUP,
+        OwnFault::Space => SPACE,
+        OwnFault::Flags => FLAGS,
+        OwnFault::Fewer => FEWER,
+        OwnFault::Empty => EMPTY,
     }
 }
 
 impl Fault {
-    // The refusal's number.
+    /// The refusal's number.
     pub fn number(&self) -> u8
         ensures { result ≡ (fault_seen self.now).number }
     {
-        self.refusal.number()
+        match self.refusal {
+            Refusal::State(fault) => state_number(fault),
+            Refusal::Order(fault) => order_number(fault),
+            Refusal::Own(fault) => own_number(fault),
+        }
     }
 
-    // The layer that the refusal comes from: 2 value state, 3 row order, 4 accumulator.
+    /// The layer that the refusal comes from: 2 value state, 3 row order, 4 accumulator.
     pub fn layer(&self) -> u8
         ensures { result ≡ (fault_seen self.now).layer }
     {
@@ -107,7 +105,7 @@ impl Fault {
         }
     }
 
-    // The number of the place where the refusal was met: 0 values, 1 to 3 order columns, 4 filter or flags, 9 none.
+    /// The number of the place where the refusal was met: 0 values, 1 to 3 order columns, 4 filter or flags, 9 none.
     pub fn column(&self) -> u8
         ensures { result ≡ (fault_seen self.now).column }
     {

@@ -8,7 +8,7 @@ use crate::{At, Fault, OwnFault, Place, Refusal};
 use layout::OutputFault;
 use tables::{OrderFault, StateFault, TableFault};
 
-// By a rule of the project each lower layer's refusal travels in the fault by a `From` of its own.
+// Each lower layer's refusal travels in the fault by a `From` of its own, so that `?` and `located` never lose which layer declined.
 impl From<At<StateFault>> for Fault {
     ghost from_gives = { λ e r. r ≡ record { refusal = State e.fault; place = e.place; row = e.row } };
 
@@ -58,7 +58,7 @@ impl From<At<OutputFault>> for Fault {
     }
 }
 
-// A lower layer's refusal inside the accumulator's, with the place and the row where it was met: a state's or an order's whole, a group table's as the accumulator's own.
+/// A lower layer's refusal inside the accumulator's, with the place and the row where it was met: a state's or an order's whole, a group table's as the accumulator's own.
 // A place and a row are two parameters: `At` and `Fault`, which hold them, are made of them here.
 pub fn located<T, F>(r: Result<T, F>, place: Place, row: usize) -> Result<T, Fault>
 where
@@ -68,7 +68,7 @@ where
     r.map_err(|fault| Fault::from(At { fault, place, row }))
 }
 
-// A refusal of the accumulator's own.
+/// A refusal of the accumulator's own.
 pub fn own(fault: OwnFault, place: Place, row: usize) -> Fault
     ensures { result ≡ record { refusal = Own fault; place = place; row = row } }
 {

@@ -18,10 +18,10 @@ use Rattle.book.specs.Emission.{Outputs, convert_declined, converted_flags, flag
 use Rattle.book.specs.Winners.{Making, Row, winners}
 use Rattle.faults.specs.Reported.{declined_seen}
 use Rattle.faults.specs.declared.Fault as coded
-use Rattle.checks.proofs.Checking.{rows_parts, third_decides, two_pass, two_stop}
+use Rattle.keeping.proofs.Checking.{rows_parts, third_decides, two_pass, two_stop}
 use Rattle.grouped.specs.Accumulators.{Stands, making}
 use Rattle.grouped.specs.Conversions.{MergesAs, flags_at_front, grouped_by}
-use Rattle.grouped.specs.Seen.{batch_answer}
+use Rattle.keeping.specs.Replies.{batch_answer}
 use Rattle.grouped.specs.declared.FirstLastGroupsAccumulator.{FirstLastGroupsAccumulator}
 use Rattle.grouped.proofs.Batching.{seen_refused}
 use Rattle.grouped.proofs.Holding.{Does, refuses}

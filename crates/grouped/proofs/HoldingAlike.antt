@@ -1,42 +1,46 @@
--- Two tables hold alike where they have as many slots and the winners of each agree.
-use Rattle.std.proofs.Common.{◌≡◌, ℕ, ◌+◌, ◌<◌, map, length, get_or, None, sym, ap, ◌∙◌, subst, inl, inr, arith}
+-- Two lists of winners, made group by group, hold alike where they are as long and the winners of each group agree.
+use Rattle.std.proofs.Common.{◌≡◌, ℕ, ◌+◌, ◌<◌, map, length, get_or, None, Option, sym, ap, ◌∙◌, subst, inl, inr, arith}
 use Rattle.std.proofs.lemmas.Bool.{cases_lt}
 use Rattle.std.proofs.lemmas.List.FromFn.{length-map-range_with_len, get_or-map-range_with_len}
 use Rattle.std.specs.List.{range_with_len}
+use Rattle.column.specs.Columns.{count_up}
 use Rattle.layout.proofs.Packing.{count_up_counting}
+use Rattle.book.specs.Winners.{Row}
 use Rattle.agreement.specs.Deciding.{WinnersAgree, HoldAlike}
-use Rattle.grouped.specs.Accumulators.{Table}
-use Rattle.grouped.specs.Reached.{winner_shown, winners_shown}
 
-shown_counted : (t : Table) → winners_shown t ≡ map (winner_shown t) (range_with_len 0 (length t.flags))
-shown_counted t = ap (map (winner_shown t)) (count_up_counting 0 (length t.flags))
+module _ (f : ℕ → Option Row) (n : ℕ) where
+  counted : map f (count_up 0 n) ≡ map f (range_with_len 0 n)
+  counted = ap (map f) (count_up_counting 0 n)
 
-shown_many : (t : Table) → length (winners_shown t) ≡ length t.flags
-shown_many t = ap length (shown_counted t) ∙ length-map-range_with_len (winner_shown t) 0 (length t.flags)
+  pub shown_many : length (map f (count_up 0 n)) ≡ n
+  shown_many = ap length counted ∙ length-map-range_with_len f 0 n
 
-shown_at : (t : Table) (k : ℕ) → k < length t.flags → get_or (winners_shown t) k None ≡ winner_shown t k
-shown_at t k h = ap (λ ws. get_or ws k None) (shown_counted t) ∙ get_or-map-range_with_len (winner_shown t) 0 (length t.flags) k k None h (omega arith)
+  pub shown_at : (k : ℕ) → k < n → get_or (map f (count_up 0 n)) k None ≡ f k
+  shown_at k h = ap (λ ws. get_or ws k None) counted ∙ get_or-map-range_with_len f 0 n k k None h (omega arith)
 
-pub holds_all : (t u : Table) → length t.flags ≡ length u.flags → ((k : ℕ) → k < length t.flags → WinnersAgree (winner_shown t k) (winner_shown u k)) → HoldAlike (winners_shown t) (winners_shown u)
-holds_all t u n h = record {
-  as_many = shown_many t ∙ n ∙ sym (shown_many u);
-  winners = λ k l.
-      let i : k < length t.flags = subst (λ m. k < m) (shown_many t) l in
-      subst (λ w. WinnersAgree w (get_or (winners_shown u) k None)) (sym (shown_at t k i)) (subst (λ v. WinnersAgree (winner_shown t k) v) (sym (shown_at u k (subst (λ m. k < m) n i))) (h k i));
-}
+module _ (f g : ℕ → Option Row) (m n : ℕ) where
+  pub holds_all : m ≡ n → ((k : ℕ) → k < m → WinnersAgree (f k) (g k)) → HoldAlike (map f (count_up 0 m)) (map g (count_up 0 n))
+  holds_all e h = record {
+    as_many = shown_many f m ∙ e ∙ sym (shown_many g n);
+    winners = λ k l.
+        let i : k < m = subst (λ x. k < x) (shown_many f m) l in
+        let j : k < n = subst (λ x. k < x) e i in
+        subst (λ w. WinnersAgree w (get_or (map g (count_up 0 n)) k None)) (sym (shown_at f m k i)) (subst (WinnersAgree (f k)) (sym (shown_at g n k j)) (h k i));
+  }
 
-pub holds_as_many : (t u : Table) → HoldAlike (winners_shown t) (winners_shown u) → length t.flags ≡ length u.flags
-holds_as_many t u h = sym (shown_many t) ∙ h.as_many ∙ shown_many u
+  pub holds_as_many : HoldAlike (map f (count_up 0 m)) (map g (count_up 0 n)) → m ≡ n
+  holds_as_many h = sym (shown_many f m) ∙ h.as_many ∙ shown_many g n
 
-pub holds_at : (t u : Table) → HoldAlike (winners_shown t) (winners_shown u) → (k : ℕ) → k < length t.flags → WinnersAgree (winner_shown t k) (winner_shown u k)
-holds_at t u h k i =
-    subst (λ w. WinnersAgree w (winner_shown u k)) (shown_at t k i)
-    (subst (λ v. WinnersAgree (get_or (winners_shown t) k None) v) (shown_at u k (subst (λ m. k < m) (holds_as_many t u h) i)) (h.winners k (subst (λ m. k < m) (sym (shown_many t)) i)))
+  pub holds_at : HoldAlike (map f (count_up 0 m)) (map g (count_up 0 n)) → (k : ℕ) → k < m → WinnersAgree (f k) (g k)
+  holds_at h k i =
+      let j : k < n = subst (λ x. k < x) (holds_as_many h) i in
+      subst (λ w. WinnersAgree w (g k)) (shown_at f m k i)
+      (subst (WinnersAgree (get_or (map f (count_up 0 m)) k None)) (shown_at g n k j) (h.winners k (subst (λ x. k < x) (sym (shown_many f m)) i)))
 
 -- one group more
-pub agrees_next : (t u : Table) (n : ℕ) → ((k : ℕ) → k < n → WinnersAgree (winner_shown t k) (winner_shown u k)) → WinnersAgree (winner_shown t n) (winner_shown u n) → (k : ℕ) → k < n + 1 → WinnersAgree (winner_shown t k) (winner_shown u k)
-agrees_next t u n h a k l =
+pub agrees_next : (f g : ℕ → Option Row) (n : ℕ) → ((k : ℕ) → k < n → WinnersAgree (f k) (g k)) → WinnersAgree (f n) (g n) → (k : ℕ) → k < n + 1 → WinnersAgree (f k) (g k)
+agrees_next f g n h a k l =
     elim (cases_lt k n) [
       | inl i ↦ h k i
-      | inr i ↦ subst (λ m. WinnersAgree (winner_shown t m) (winner_shown u m)) (let z : n ≡ k = omega arith in z) a
+      | inr i ↦ subst (λ m. WinnersAgree (f m) (g m)) (let z : n ≡ k = omega arith in z) a
     ]

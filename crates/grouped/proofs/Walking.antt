@@ -1,49 +1,16 @@
 -- The walk through a batch finds the winner of each group.
-use Rattle.std.proofs.Common.{◌≡◌, ℕ, zero, suc, ◌+◌, ◌<◌, Bool, true, false, cond, not, ◌&&◌, ◌||◌, eqb, List, [], ◌∷◌, ◌++◌, map, get_or, Some, None, filter, Option, Less, Equal, Greater, sym, refl, ap, ◌∙◌, add-one, arith}
-use mathlib.Core.Bool.{false≢true}
+use Rattle.std.proofs.Common.{◌≡◌, ℕ, zero, suc, ◌+◌, ◌<◌, ◌≢◌, Bool, true, false, cond, not, ◌&&◌, eqb, List, [], ◌∷◌, ◌++◌, map, length, get_or, set, Some, None, filter, Option, sym, refl, ap, ap₂, ◌∙◌, subst, ⊎_elim, add-one, eq-eqb, arith}
 use Rattle.std.proofs.lemmas.List.Elements.{filter-append}
-use Rattle.std.proofs.lemmas.List.{map-append}
-use Rattle.tables.specs.declared.OrderFault.TheVariants as order
-use Rattle.column.specs.Checks.{refuse, first_of}
-use Rattle.column.specs.Columns.{Column, Flags, count_up}
-use Rattle.tables.specs.Meaning.{Settings, OrderLaws}
-use Rattle.tables.specs.Refusals.{cols_fit, some_column, other_kind, past_column, untaken, key_unfit, key_refused, verdict}
-use Rattle.book.specs.Winners.{Row, Making, Lawful, beats, winner, top_rows}
+use Rattle.std.proofs.lemmas.List.{map-append, get_or-set_same, get_or-set_other}
+use Rattle.std.proofs.lemmas.Bool.{cases_eq, ne_eqb}
+use Rattle.std.specs.Option.{is_some}
+use Rattle.column.specs.Columns.{Flags, count_up}
+use Rattle.column.specs.Seen.{marks_seen}
+use Rattle.column.specs.declared.BoolColumn as code
+use Rattle.book.specs.Winners.{Row, Making, Lawful, winner, top_rows}
 use Rattle.book.specs.Batches.{Given, Batch, row_at, admitted}
 use Rattle.book.proofs.Winning.{challenge, winner_append}
-use Rattle.grouped.specs.Walk.{picks, key_of, ahead, group_rows, found, step, Best}
-
--- a key that is not refused at one row, and at another, is not refused at both
-pub both_taken : (s : Settings) (cs : List Column) (n a b : ℕ) → key_refused s false cs n (a ∷ []) ≡ None → key_refused s false cs n (b ∷ []) ≡ None → key_refused s false cs n (a ∷ b ∷ []) ≡ None
-unfolding key_refused key_unfit
-both_taken s cs n a b p q =
-    go (not (cols_fit s.kinds cs n)) (some_column (other_kind s.kinds) 0 cs) (past_column cs a) (past_column cs b) (untaken s cs a) (untaken s cs b) p q
-  where
-    go : (x y r r' l l' : Bool)
-        → first_of (first_of (refuse x order.Cols ∷ None ∷ refuse y order.Kind ∷ refuse (r || false) order.Rows ∷ []) ∷ refuse (l || false) order.Long ∷ []) ≡ None
-        → first_of (first_of (refuse x order.Cols ∷ None ∷ refuse y order.Kind ∷ refuse (r' || false) order.Rows ∷ []) ∷ refuse (l' || false) order.Long ∷ []) ≡ None
-        → first_of (first_of (refuse x order.Cols ∷ None ∷ refuse y order.Kind ∷ refuse (r || (r' || false)) order.Rows ∷ []) ∷ refuse (l || (l' || false)) order.Long ∷ []) ≡ None
-    go true y r r' l l' e f = e
-    go false true r r' l l' e f = e
-    go false false true r' l l' e f = cc
-    go false false false true l l' e f = cc
-    go false false false false true l' e f = e
-    go false false false false false true e f = f
-    go false false false false false false e f = e
-
-pub ahead_beats : (m : Making) (laws : OrderLaws m.order) (a b : Row) → ahead m a.key b.key ≡ beats m a b
-unfolding ahead verdict beats
-ahead_beats m laws a b = go m.first (m.order.leq a.key b.key) (m.order.leq b.key a.key) (laws.total a.key b.key)
-  where
-    go : (l p q : Bool) → (p || q) ≡ true → picks l (cond p (cond q Equal Less) Greater) ≡ cond l (not q) (not p)
-    go true true true t = refl
-    go true true false t = refl
-    go true false true t = refl
-    go true false false t = absurd (false≢true t)
-    go false true true t = refl
-    go false true false t = refl
-    go false false true t = refl
-    go false false false t = absurd (false≢true t)
+use Rattle.grouped.specs.Walk.{brought, marked_row, outranks, Best}
 
 pub count_push : (s n : ℕ) → count_up s (suc n) ≡ count_up s n ++ (s + n) ∷ []
 count_push s zero = ap (λ k. k ∷ []) (let z : s ≡ s + 0 = omega arith in z)
@@ -53,58 +20,94 @@ abbrev push_if : Bool → List Row → Row → List Row
 push_if true xs y = xs ++ y ∷ []
 push_if false xs y = xs ++ []
 
-rows_push : (m : Making) (b : Batch) (marks : Option Flags) (k n : ℕ)
-    → group_rows m b marks k (suc n) ≡ push_if (eqb (get_or b.indices n 0) k && admitted m b.columns marks n) (group_rows m b marks k n) (row_at b.columns n)
-rows_push m b marks k n =
-    let p : ℕ → Bool = λ r. eqb (get_or b.indices r 0) k && admitted m b.columns marks r in
+-- whether row n is an admitted row of group k
+abbrev comes : Making → Batch → Option Flags → ℕ → ℕ → Bool
+comes m b marks k n = eqb (get_or b.indices n 0) k && admitted m b.columns marks n
+
+brought_push : (m : Making) (b : Batch) (marks : Option Flags) (k n : ℕ)
+    → brought m b marks k (suc n) ≡ push_if (comes m b marks k n) (brought m b marks k n) (row_at b.columns n)
+brought_push m b marks k n =
+    let p : ℕ → Bool = comes m b marks k in
     let z : 0 + n ≡ n = omega arith in
     ap (λ l. map (row_at b.columns) (filter p l)) (count_push 0 n ∙ ap (λ i. count_up 0 n ++ i ∷ []) z)
     ∙ ap (map (row_at b.columns)) (filter-append p (count_up 0 n) (n ∷ []))
     ∙ map-append (row_at b.columns) (filter p (count_up 0 n)) (filter p (n ∷ []))
     ∙ go (p n)
   where
-    go : (t : Bool) → map (row_at b.columns) (filter (λ r. eqb (get_or b.indices r 0) k && admitted m b.columns marks r) (count_up 0 n)) ++ map (row_at b.columns) (cond t (n ∷ []) []) ≡ push_if t (group_rows m b marks k n) (row_at b.columns n)
+    go : (t : Bool) → map (row_at b.columns) (filter (comes m b marks k) (count_up 0 n)) ++ map (row_at b.columns) (cond t (n ∷ []) []) ≡ push_if t (brought m b marks k n) (row_at b.columns n)
     go true = refl
     go false = refl
 
-step_under : (m : Making) (g : Given) (t : Bool) (o : Option ℕ) (n r : ℕ) → ((k : ℕ) → o ≡ Some k → k < n) → step m g t o n ≡ Some r → r < n + 1
-step_under m g false o n r h e = omega (arith, h r e)
-step_under m g true None n r h e = let q : n ≡ r = cc in omega arith
-step_under m g true (Some a) n r h e = chosen (ahead m (key_of g n) (key_of g a)) e
-  where
-    chosen : (t : Bool) → cond t (Some n) (Some a) ≡ Some r → r < n + 1
-    chosen true q = let z : n ≡ r = cc in omega arith
-    chosen false q = let z : a ≡ r = cc in omega (arith, h a refl)
-
-found_cond : (g : Given) (t : Bool) (n a : ℕ) → found g (cond t (Some n) (Some a)) ≡ cond t (Some (row_at g n)) (Some (row_at g a))
-found_cond g true n a = refl
-found_cond g false n a = refl
-
 pub best_start : (m : Making) (b : Batch) (marks : Option Flags) (k : ℕ) (o : Option ℕ) → o ≡ None → Best m b marks k 0 o
 unfolding winner top_rows
-best_start m b marks k o e = record { wins_so = ap (found b.columns) e; among = λ r h. absurd (let z : ◌≡◌ {A = ℕ} 0 1 = cc in omega arith) }
+best_start m b marks k o e = record { wins_so = ap (marked_row b.columns) e; among = λ r h. absurd (let z : ◌≡◌ {A = ℕ} 0 1 = cc in omega arith) }
 
-module _ (m : Making) (laws : Lawful m) (g : Given) where
-  row_ahead : (n a : ℕ) → ahead m (key_of g n) (key_of g a) ≡ beats m (row_at g n) (row_at g a)
-  unfolding row_at
-  row_ahead n a = ahead_beats m laws.of_order (row_at g n) (row_at g a)
+module _ (m : Making) (laws : Lawful m) (b : Batch) (marks : Option Flags) (n : ℕ) where
+  grows : (k : ℕ) (t : Bool) → comes m b marks k n ≡ t → winner m (brought m b marks k (n + 1)) ≡ winner m (push_if t (brought m b marks k n) (row_at b.columns n))
+  grows k t e = ap (λ i. winner m (brought m b marks k i)) (add-one n) ∙ ap (winner m) (brought_push m b marks k n) ∙ ap (λ t. winner m (push_if t (brought m b marks k n) (row_at b.columns n))) e
 
-  -- a row more against what was found
-  stepped : (o : Option ℕ) (n : ℕ) → found g (step m g true o n) ≡ challenge m (found g o) (row_at g n)
-  stepped None n = refl
-  stepped (Some a) n = found_cond g (ahead m (key_of g n) (key_of g a)) n a ∙ ap (λ t. cond t (Some (row_at g n)) (Some (row_at g a))) (row_ahead n a)
+  -- a row that is not admitted, or not of the group, changes nothing
+  pub best_passes : (k : ℕ) (o : Option ℕ) → comes m b marks k n ≡ false → Best m b marks k n o → Best m b marks k (n + 1) o
+  best_passes k o e h = record {
+    wins_so = h.wins_so ∙ sym (winner_append m laws (brought m b marks k n) []) ∙ sym (grows k false e);
+    among = λ r q. let l = h.among r q in omega arith;
+  }
 
-  pushed : (t : Bool) (o : Option ℕ) (xs : List Row) (n : ℕ) → found g o ≡ winner m xs → found g (step m g t o n) ≡ winner m (push_if t xs (row_at g n))
-  pushed true o xs n e = stepped o n ∙ ap (λ w. challenge m w (row_at g n)) e ∙ sym (winner_append m laws xs (row_at g n ∷ []))
-  pushed false o xs n e = e ∙ sym (winner_append m laws xs [])
+  challenged : (o : Option ℕ) (t : Bool) → t ≡ outranks m (row_at b.columns n) (marked_row b.columns o)
+      → marked_row b.columns (cond t (Some n) o) ≡ challenge m (marked_row b.columns o) (row_at b.columns n)
+  challenged None t e = rw e
+  challenged (Some a) true e = ap (λ t. cond t (Some (row_at b.columns n)) (Some (row_at b.columns a))) e
+  challenged (Some a) false e = ap (λ t. cond t (Some (row_at b.columns n)) (Some (row_at b.columns a))) e
 
-pub best_more : (m : Making) (laws : Lawful m) (b : Batch) (marks : Option Flags) (k n : ℕ) (o o' : Option ℕ) → Best m b marks k n o
-    → o' ≡ step m b.columns (eqb (get_or b.indices n 0) k && admitted m b.columns marks n) o n → Best m b marks k (n + 1) o'
-best_more m laws b marks k n o o' h e =
-    let g = b.columns in
-    let t = eqb (get_or b.indices n 0) k && admitted m g marks n in
-    record {
-      wins_so = ap (found g) e ∙ pushed m laws g t o (group_rows m b marks k n) n h.wins_so
-          ∙ ap (winner m) (sym (rows_push m b marks k n)) ∙ ap (λ i. winner m (group_rows m b marks k i)) (sym (add-one n));
-      among = λ r q. step_under m g t o n r h.among (sym e ∙ q);
-    }
+  under : (o : Option ℕ) (t : Bool) → ((r : ℕ) → o ≡ Some r → r < n) → (r : ℕ) → cond t (Some n) o ≡ Some r → r < n + 1
+  under o true h r e = let q : n ≡ r = cc in omega arith
+  under o false h r e = let l = h r e in omega arith
+
+  -- an admitted row of the group is marked where it outranks the marked one
+  pub best_meets : (k : ℕ) (o : Option ℕ) (t : Bool) → comes m b marks k n ≡ true → t ≡ outranks m (row_at b.columns n) (marked_row b.columns o)
+      → Best m b marks k n o → Best m b marks k (n + 1) (cond t (Some n) o)
+  best_meets k o t e w h = record {
+    wins_so = challenged o t w ∙ ap (λ v. challenge m v (row_at b.columns n)) h.wins_so
+        ∙ sym (winner_append m laws (brought m b marks k n) (row_at b.columns n ∷ [])) ∙ sym (grows k true e);
+    among = under o t h.among;
+  }
+
+  -- the rows that are marked after one row more
+  pub best_next : (rows : List (Option ℕ)) (group : ℕ) (t : Bool) (new : Option ℕ) → group < length rows → group ≡ get_or b.indices n 0
+      → t ≡ (admitted m b.columns marks n && outranks m (row_at b.columns n) (marked_row b.columns (get_or rows group None)))
+      → new ≡ cond t (Some n) (get_or rows group None)
+      → ((k : ℕ) → Best m b marks k n (get_or rows k None)) → (k : ℕ) → Best m b marks k (n + 1) (get_or (set rows group new) k None)
+  best_next rows group t new l at e is h k = ⊎_elim here other (cases_eq k group)
+    where
+      old : Option ℕ
+      old = get_or rows group None
+
+      met : (a : Bool) → admitted m b.columns marks n ≡ a → t ≡ (a && outranks m (row_at b.columns n) (marked_row b.columns old)) → Best m b marks group (n + 1) (cond t (Some n) old)
+      met true f q = best_meets group old t (ap₂ (λ x y. x && y) (eq-eqb _ _ (sym at)) f) q (h group)
+      met false f q = rw q (best_passes group old (ap₂ (λ x y. x && y) (eq-eqb _ _ (sym at)) f) (h group))
+
+      here : k ≡ group → Best m b marks k (n + 1) (get_or (set rows group new) k None)
+      here i = rw (i, get_or-set_same rows group new None l, is) (met (admitted m b.columns marks n) refl e)
+
+      other : k ≢ group → Best m b marks k (n + 1) (get_or (set rows group new) k None)
+      other i = rw (get_or-set_other rows group k new None i) (best_passes k (get_or rows k None) (ap (λ x. x && admitted m b.columns marks n) (ne_eqb _ _ (λ j. i (sym j ∙ sym at)))) (h k))
+
+  pub best_after : (rows rows' : List (Option ℕ)) (group : ℕ) (t : Bool) (old new : Option ℕ) → group < length rows → group ≡ get_or b.indices n 0 → old ≡ get_or rows group None
+      → t ≡ (admitted m b.columns marks n && outranks m (row_at b.columns n) (marked_row b.columns old)) → new ≡ cond t (Some n) old → rows' ≡ set rows group new
+      → ((k : ℕ) → Best m b marks k n (get_or rows k None)) → (k : ℕ) → Best m b marks k (n + 1) (get_or rows' k None)
+  best_after rows rows' group t old new l at o e is r h k =
+      subst (λ xs. Best m b marks k (n + 1) (get_or xs k None)) (sym r)
+      (best_next rows group t new l at (e ∙ ap (λ x. admitted m b.columns marks n && outranks m (row_at b.columns n) (marked_row b.columns x)) o) (is ∙ ap (cond t (Some n)) o) h k)
+
+-- Choosing
+
+pub chosen_so : (a t u : Bool) → a ≡ true → t ≡ u → t ≡ (a && u)
+chosen_so a t u e f = f ∙ ap (λ x. x && u) (sym e)
+
+no_marks : (f : Option code.BoolColumn) → is_some f ≡ false → marks_seen f ≡ None
+no_marks None e = refl
+no_marks (Some c) e = cc
+
+pub all_admitted : (m : Making) (g : Given) (f : Option code.BoolColumn) (t : Bool) (r : ℕ) → is_some f ≡ not t → t ≡ true → m.ignore_nulls ≡ false → admitted m g (marks_seen f) r ≡ true
+unfolding admitted
+all_admitted m g f t r e h n = rw (no_marks f (e ∙ ap not h), n)

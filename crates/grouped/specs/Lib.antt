@@ -1,4 +1,5 @@
 pub mod Notices
+pub mod Slots
 pub mod Seen
 pub mod Accumulators
 pub mod Walk

@@ -1,19 +1,42 @@
-// Batches: rows of a table.
+//! Batches: rows of a table.
 ghost use Rattle.std.specs.Prelude.{◌≡◌};
 ghost use Rattle.column.specs.Seen.{flags_seen, marks_seen};
 ghost use Rattle.book.specs.Calls.{update, merge};
+ghost use Rattle.keeping.specs.Replies.{batch_answer, no_outputs};
+ghost use Rattle.keeping.specs.Seen.{batch_seen};
 ghost use Rattle.grouped.specs.Accumulators.{Obeys};
-ghost use Rattle.grouped.specs.Seen.{batch_of, batch_answer, no_outputs};
+ghost use Rattle.grouped.specs.Seen.{batch_of};
 
 use crate::FirstLastGroupsAccumulator;
-use checks::{Batch, Given, check_batch};
+use crate::extremes::Extremes;
 use column::{BoolColumn, Column};
 use faults::Fault;
+use keeping::{Batch, Given, check_batch};
 use tables::{RowOrder, ValueState};
 
 impl<S: ValueState, O: RowOrder> FirstLastGroupsAccumulator<S, O> {
-    // Takes a batch in: each group's winner among the batch's admitted rows replaces what the group holds if that is unset or beaten.
-    // By a rule of the project the columns come one by one, the order columns as an array of three and a count.
+    // Takes a batch in.
+    fn take_batch(&mut self, batch: &Batch) -> Result<(), Fault>
+        ensures { Obeys self.old
+            (update (batch_seen batch.now) (marks_seen batch.now.filter))
+            no_outputs (record { result = batch_answer result; outputs = no_outputs })
+            self.new }
+    {
+        let held = self.slots.len;
+        let kept = &self.kept;
+        check_batch(&kept.state, &kept.order, held, batch)?;
+        self.grow(batch.total);
+        let mut best = Extremes::none();
+        self.get_filtered_extreme_of_each_group(batch, &mut best);
+        self.take_winners(batch, &best);
+        Ok(())
+    }
+
+    /// Takes a batch in: the winner among each group's admitted rows replaces what the group holds if that is unset or beaten. The original's `update_batch`.
+    ///
+    /// The values, the first `count` of the order columns, a group number for each row and the filter, if there is one, all have one length; a row counts where the filter is true and not null. `total_num_groups` groups are held afterwards, at most 256 and no fewer than before.
+    ///
+    /// Refused, in this order: COLS, KIND, ROWS, TOTAL, SHRUNK, GROUP, LONG. A refused batch changes nothing.
     pub fn update_batch<'a>(
         &mut self,
         values: Column<'a>,
@@ -28,7 +51,7 @@ impl<S: ValueState, O: RowOrder> FirstLastGroupsAccumulator<S, O> {
             no_outputs (record { result = batch_answer result; outputs = no_outputs })
             self.new }
     {
-        let batch = Batch {
+        self.take_batch(&Batch {
             columns: Given {
                 value: values,
                 orders: orderings,
@@ -37,15 +60,12 @@ impl<S: ValueState, O: RowOrder> FirstLastGroupsAccumulator<S, O> {
             filter: opt_filter,
             indices: group_indices,
             total: total_num_groups,
-        };
-        check_batch(&self.state, &self.order, self.slots.len(), &batch)?;
-        self.grow(batch.total)?;
-        let best = self.get_filtered_extreme_of_each_group(&batch)?;
-        self.take_winners(&best, &batch.columns, batch.total)
+        })
     }
 
-    // Takes a state's columns in, as a batch whose filter is the flags column: a row counts where its flag is true and not null.
-    // By a rule of the project the columns come one by one, as in an update.
+    /// Takes a state's columns in, as `update_batch` takes a batch whose filter is the flags column: a row counts where its flag is true and not null. The original's `merge_batch`.
+    ///
+    /// Refused as there.
     pub fn merge_batch<'a>(
         &mut self,
         values: Column<'a>,
@@ -60,13 +80,15 @@ impl<S: ValueState, O: RowOrder> FirstLastGroupsAccumulator<S, O> {
             no_outputs (record { result = batch_answer result; outputs = no_outputs })
             self.new }
     {
-        self.update_batch(
-            values,
-            orderings,
-            count,
-            group_indices,
-            Some(is_set),
-            total_num_groups,
-        )
+        self.take_batch(&Batch {
+            columns: Given {
+                value: values,
+                orders: orderings,
+                count,
+            },
+            filter: Some(is_set),
+            indices: group_indices,
+            total: total_num_groups,
+        })
     }
 }

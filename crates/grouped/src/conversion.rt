@@ -1,20 +1,28 @@
-// Conversion: the rows of a batch as states of a group each.
-ghost use Rattle.std.specs.Prelude.{IfOk};
+//! Conversion: the rows of a batch as states of a group each.
+ghost use Rattle.std.specs.Prelude.{◌≡◌, IfOk};
+ghost use Rattle.column.specs.Columns.{bit_at};
 ghost use Rattle.column.specs.Seen.{marks_seen};
-ghost use Rattle.layout.specs.Written.{flag_parts_seen};
+ghost use Rattle.layout.specs.Written.{eight, flag_parts_seen};
 ghost use Rattle.book.specs.Calls.{convert};
 ghost use Rattle.book.specs.Emission.{passed_on};
+ghost use Rattle.keeping.specs.Replies.{given_of, batch_answer, flags_only};
 ghost use Rattle.grouped.specs.Accumulators.{Obeys};
 ghost use Rattle.grouped.specs.Conversions.{flags_at_front, MergesAs};
-ghost use Rattle.grouped.specs.Seen.{given_of, batch_answer, flags_only};
 
 use crate::FirstLastGroupsAccumulator;
-use checks::{Given, check_columns};
 use column::{BoolColumn, Column};
 use faults::Fault;
+use keeping::{Given, check_columns, write_flags};
 use layout::{FlagOutput, FlagSource};
 use tables::{RowOrder, ValueState};
-use writing::write_flags;
+
+// The bits of the rows 8 j to 8 j + 7; none is set past the end.
+#[inline]
+fn byte_of(bytes: &[u8], j: usize) -> u8
+    ensures { result ≡ eight (bit_at bytes.now) j }
+{
+    bytes.get(j).copied().unwrap_or(0)
+}
 
 // The flag of each row: the filter's with its nulls, or true where there is no filter.
 #[derive(Drop)]
@@ -31,11 +39,27 @@ impl<'a> FlagSource for PassedOn<'a> {
             Some(flags) => flags.value(row),
         }
     }
+
+    // Of eight rows at once, by the filter's own bytes.
+    fn known_byte(&self, j: usize) -> u8 {
+        match self.filter {
+            Some(flags) if !flags.validity.is_empty() => byte_of(flags.validity, j),
+            _ => u8::MAX,
+        }
+    }
+
+    fn holds_byte(&self, j: usize) -> u8 {
+        match self.filter {
+            None => u8::MAX,
+            Some(flags) => self.known_byte(j) & byte_of(flags.bits, j),
+        }
+    }
 }
 
 impl<S: ValueState, O: RowOrder> FirstLastGroupsAccumulator<S, O> {
-    // Writes the flags column that makes a batch's own columns the states of its rows: the filter with its nulls, or all true.
-    // By a rule of the project the columns come one by one, as in an update.
+    /// Writes the flags column that makes a batch's own columns the states of its rows: the filter with its nulls, or all true. The original's `convert_to_state`.
+    ///
+    /// Refused, in this order: COLS, ROWS, SPACE. A refused call writes nothing.
     pub fn convert_to_state<'a>(
         &self,
         values: Column<'a>,
@@ -56,7 +80,7 @@ impl<S: ValueState, O: RowOrder> FirstLastGroupsAccumulator<S, O> {
             orders: orderings,
             count,
         };
-        check_columns(&self.order, &given, opt_filter)?;
+        check_columns(&self.kept.order, &given, opt_filter)?;
         let flags = PassedOn { filter: opt_filter };
         write_flags(&flags, values.rows, out)
     }

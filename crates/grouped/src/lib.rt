@@ -1,7 +1,7 @@
-// FIRST and LAST values of groups, generic over the value state and the row order.
+//! FIRST and LAST values of groups, generic over the value state and the row order.
 #![tactic(auto)]
 
-ghost use Rattle.std.specs.Prelude.{◌≡◌, length};
+ghost use Rattle.std.specs.Prelude.{◌≡◌, ◌≤◌, length};
 
 mod agreeing;
 mod batches;
@@ -17,25 +17,26 @@ mod states;
 mod taking;
 mod walk;
 
+use keeping::Keeper;
+pub use keeping::StateOutput;
 pub use notice::{FINISHED, ShiftNotice};
 use slots::SlotTable;
 use tables::GroupTable;
-pub use writing::StateOutput;
 
-// The first or last value of each group by ordering keys. State, order and slots hold the same groups.
-// By a rule of the project it holds the three by value beside one another, and says by the original's two flags how it was made.
+/// The first or last value of each group by ordering keys: the original's `FirstLastGroupsAccumulator`.
+///
+/// Groups are numbered from 0; up to 256 are held. A group is unset until a row of it is taken in.
 #[derive(Drop)]
 pub struct FirstLastGroupsAccumulator<S: GroupTable, O: GroupTable> {
-    state: S,
-    order: O,
+    kept: Keeper<S, O>,
     slots: SlotTable,
-    pick_first_in_group: bool,
-    ignore_nulls: bool,
-    ghost valued: { length (S.GroupTable.entries state) ≡ length slots.set },
-    ghost keyed: { length (O.GroupTable.entries order) ≡ length slots.set },
+    ghost level: { length (S.GroupTable.entries kept.state) ≡ slots.len },
+    ghost few: { slots.len ≤ 256 },
+    // Behind a reference the length of an array is not known without this.
+    ghost places: { length slots.slots ≡ 256 },
 }
 
-// How many groups an emission takes.
+/// How many groups an emission takes, from group 0 on: the original's `EmitTo`.
 #[derive(Clone, Copy)]
 pub enum EmitTo {
     All,

@@ -1,20 +1,20 @@
-// The shift notice of an emission: it must be spent, once, on the list of open group numbers.
+//! The shift notice of an emission: it must be spent, once, on the list of open group numbers.
 ghost use Rattle.std.specs.Prelude.{◌≡◌, ◌≤◌, map};
 ghost use Rattle.grouped.specs.Notices.{renumbered, spent};
 
-// The number of a group that has left: by a rule of the project a number in the list of open ones, and no Option.
+/// What stands in a list of open group numbers for a group that has left.
 pub const FINISHED: u32 = u32::MAX;
 
-// The number in a notice that is spent: by a rule of the project a notice is one number, and no Option.
+// The number in a notice that is spent.
 const SPENT: u32 = u32::MAX;
 
-// How many groups an emission dropped; 4,294,967,295 once the notice is spent: by a rule of the project a notice is one number alone.
+/// How many groups an emission dropped, at most 256; 4,294,967,295 once the notice is spent. So whether it is spent is a fact of one number, which dropping it can ask for.
 pub struct ShiftNotice {
     dropped: u32,
 }
 
 impl Drop for ShiftNotice {
-    // Only a spent notice may be let go: renumber the list of open group numbers first.
+    /// Only a spent notice may be let go: renumber the list of open group numbers first.
     fn drop(self)
         requires { self.dropped ≡ spent }
     {
@@ -41,7 +41,9 @@ impl ShiftNotice {
         ShiftNotice { dropped }
     }
 
-    // Renumbers the list of open group numbers and answers how many groups the emission dropped. This spends the notice: a second time is refused.
+    /// Renumbers a list of open group numbers and answers how many groups the emission dropped: a group that has left becomes FINISHED, another's number falls by as many.
+    ///
+    /// This spends the notice: a second time is refused.
     pub fn renumber(&mut self, open: &mut [u32]) -> u32
         requires { self.old.dropped ≤ 256 }
         ensures answer { result ≡ self.old.dropped }

@@ -1,11 +1,11 @@
-// States: groups that leave as a prefix, with all that another accumulator needs to take them in.
+//! States: groups that leave as a prefix, with all that another accumulator needs to take them in.
 ghost use Rattle.std.specs.Prelude.{◌≡◌, ◌≤◌, ◌==◌, IfOk};
 ghost use Rattle.column.specs.Checks.{refuse};
 ghost use Rattle.column.specs.Faults.{EMPTY};
 ghost use Rattle.book.specs.Calls.{state};
 ghost use Rattle.book.specs.Declines.{own as own_fault};
 ghost use Rattle.faults.specs.Reported.{declined_seen};
-ghost use Rattle.writing.specs.Seen.{outputs_seen};
+ghost use Rattle.keeping.specs.Seen.{outputs_seen};
 ghost use Rattle.grouped.specs.Accumulators.{Obeys};
 ghost use Rattle.grouped.specs.Seen.{to_seen, emission_answer};
 
@@ -24,7 +24,9 @@ fn check_some(n: usize) -> Result<(), Fault>
 }
 
 impl<S: ValueState, O: RowOrder> FirstLastGroupsAccumulator<S, O> {
-    // Writes values, keys and set flags of the first groups, drops these, and answers a notice of how many.
+    /// Writes values, keys and set flags of the first groups, drops these, and answers a notice of how many: the original's `state`.
+    ///
+    /// Refused, in this order: FEWER, EMPTY, SPACE in any part. A refused call writes and drops nothing.
     pub fn state(&mut self, emit_to: EmitTo, out: &mut StateOutput) -> Result<ShiftNotice, Fault>
         ensures obeys { Obeys self.old
             (state (to_seen emit_to))
@@ -33,9 +35,9 @@ impl<S: ValueState, O: RowOrder> FirstLastGroupsAccumulator<S, O> {
             self.new }
         ensures unspent { IfOk result (λ t. t.dropped ≤ 256) }
     {
-        let n = self.leaving(emit_to)?;
+        let n = emit_to.count(self.slots.len);
         check_some(n)?;
-        self.write_state(n, out)?;
-        self.drop_groups(n)
+        self.kept.write_state(&self.slots, n, out)?;
+        Ok(self.drop_groups(n))
     }
 }

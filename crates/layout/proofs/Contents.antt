@@ -1,14 +1,14 @@
 -- The bytes of cells: how many there are, those of a number and those of a record.
-use Rattle.std.proofs.Common.{◌≡◌, ℕ, zero, suc, ◌+◌, ◌*◌, ◌/◌, ◌%◌, ◌<◌, Bool, true, false, cond, not, ◌&&◌, leb, List, [], ◌∷◌, ◌++◌, map, length, get_or, drop, ℤ, is_some, Some, None, Option, Ok, Err, Result, sym, refl, ap, ◌∙◌, append-nil, arith, length-append, w64, of_z}
+use Rattle.std.proofs.Common.{◌≡◌, ℕ, zero, suc, ◌+◌, ◌*◌, ◌/◌, ◌%◌, ◌<◌, Bool, true, false, cond, not, ltb, ◌≤◌, List, [], ◌∷◌, ◌++◌, map, length, get_or, drop, ℤ, Some, None, Option, Ok, Err, Result, sym, refl, ap, ◌∙◌, append-nil, arith, length-append, w64, of_z}
 use native.Mathlib.Nat.{div-div-eq-div-mul}
 use Rattle.std.specs.List.{flat_map}
 use Rattle.std.proofs.lemmas.List.{length-map, drop_all}
-use Rattle.std.proofs.lemmas.Bool.{le-leb, cond-true, cond-false}
-use Rattle.column.specs.Cells.{Cell, null, number, text, fields, is_null, number_cell, fields_cell}
+use Rattle.std.proofs.lemmas.Bool.{le-ltb, lt-ltb, cond-true, cond-false}
+use Rattle.column.specs.Cells.{Cell, null, number, text, fields, is_null, fields_cell}
 use Rattle.column.specs.Checks.{outcome, refuse}
 use Rattle.layout.specs.declared.OutputFault.{OutputFault}
 use Rattle.layout.specs.declared.OutputFault.TheVariants.{Space}
-use Rattle.layout.specs.Layout.{Parts, bytes_of, bit, has_field, number_bytes, field_bytes, number_content, record_content, validity_of, over, fits}
+use Rattle.layout.specs.Layout.{bytes_of, bit, has_field, number_bytes, field_bytes, number_content, record_content, validity_of, over}
 use Rattle.layout.proofs.Overs.{joined_length}
 use Rattle.layout.proofs.Packing.{packed_length}
 
@@ -30,11 +30,6 @@ pub field_length : (o : Option ℤ) → length (field_bytes o) ≡ 8
 field_length None = refl
 field_length (Some z) = number_length z
 
--- a number that may be absent has the bytes that its cell has in a column of numbers
-pub field_bytes_is : (o : Option ℤ) → number_content (number_cell o) ≡ field_bytes o
-field_bytes_is None = refl
-field_bytes_is (Some z) = refl
-
 pub record_length : (c : Cell) → length (record_content c) ≡ 25
 record_length null = refl
 record_length (number z) = refl
@@ -42,34 +37,8 @@ record_length (text bs) = refl
 record_length (fields a b c) =
     let x = field_length a in let y = field_length b in let z = field_length c in simp length-append (omega arith)
 
--- cells that are null where a value is not there
-pub there_map : {X : Type 0} (f : Option X → Cell) → ((o : Option X) → not (is_null (f o)) ≡ is_some o) → (os : List (Option X)) → map (λ c. not (is_null c)) (map f os) ≡ map is_some os
-there_map f h [] = refl
-there_map f h (o ∷ os) = λ i. h o i ∷ there_map f h os i
-
 pub validity_length : (cs : List Cell) → length (validity_of cs) ≡ (length cs + 7) / 8
 validity_length cs = packed_length (map (λ c. not (is_null c)) cs) ∙ ap (λ n. (n + 7) / 8) (length-map cs (λ c. not (is_null c)))
-
-pub number_there : (o : Option ℤ) → not (is_null (number_cell o)) ≡ is_some o
-number_there None = refl
-number_there (Some z) = refl
-
-pub record_there : (o : Option (List (Option ℤ))) → not (is_null (fields_cell o)) ≡ is_some o
-record_there None = refl
-record_there (Some fs) = refl
-
--- the room that parts with no offsets need
-pub fits_by : (p before : Parts) (v n : ℕ) → length p.validity ≡ v → p.offsets ≡ [] → length p.content ≡ n → fits p before ≡ (leb v (length before.validity) && leb n (length before.content))
-fits_by p before v n e f h = rw (e, f, h, le-leb 0 (length before.offsets) (omega arith))
-
--- the same where each cell has bytes of one length
-pub wide_fit : {X : Type 0} (f : Cell → List ℕ) (w : ℕ) → ((c : Cell) → length (f c) ≡ w) → (v : X → Cell) (xs : List X) (before : Parts)
-    → fits (record { validity = validity_of (map v xs); offsets = []; content = flat_map f (map v xs) }) before ≡ (leb ((length xs + 7) / 8) (length before.validity) && leb (w * length xs) (length before.content))
-wide_fit f w h v xs before =
-    let n = length-map xs v in
-    fits_by (record { validity = validity_of (map v xs); offsets = []; content = flat_map f (map v xs) }) before ((length xs + 7) / 8) (w * length xs)
-    (validity_length (map v xs) ∙ ap (λ k. (k + 7) / 8) n) refl
-    (joined_length f w h (map v xs) ∙ ap (λ k. w * k) n)
 
 -- the bytes of a word, the lowest first
 pub word_bytes : (n : ℕ)
@@ -109,3 +78,10 @@ kept b x y h = sym (cond-false b x y h)
 
 pub picked : {A : Type 0} (b : Bool) (x y z : A) → b ≡ true → z ≡ x → z ≡ cond b x y
 picked b x y z h e = e ∙ sym (cond-true b x y h)
+
+-- a number below a bound, or none
+pub told_some : (n k m : ℕ) → k ≡ n → n < m → Some k ≡ cond (ltb n m) (Some n) None
+told_some n k m e h = ap Some e ∙ sym (ap (λ b. cond b (Some n) None) (lt-ltb n m h))
+
+pub told_none : {X : Type 0} (n m : ℕ) (x : X) → m ≤ n → None ≡ cond (ltb n m) (Some x) None
+told_none n m x h = sym (ap (λ b. cond b (Some x) None) (le-ltb n m h))

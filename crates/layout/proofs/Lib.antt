@@ -1,6 +1,10 @@
-pub mod Packing
-pub mod Unpacking
-pub mod Overs
 pub mod Contents
+pub mod Places
+pub mod Eights
+pub mod Masks
 pub mod Octets
 pub mod Offsets
+pub mod Overs
+pub mod Packing
+pub mod Sources
+pub mod Unpacking

@@ -1,5 +1,5 @@
 -- One more element or part written where the front of a buffer ends.
-use Rattle.std.proofs.Common.{◌≡◌, ℕ, zero, suc, ◌+◌, ◌*◌, ◌<◌, ◌≤◌, List, [], ◌∷◌, ◌++◌, length, get_or, take, drop, set, sym, ap, ◌∙◌, append_assoc, arith, length-append}
+use Rattle.std.proofs.Common.{◌≡◌, ℕ, ◌+◌, ◌*◌, ◌<◌, List, [], ◌∷◌, ◌++◌, length, get_or, take, drop, set, sym, ap, ◌∙◌, append_assoc, arith, length-append}
 use borrow.Rule.Slice.PartMut.{put_mid}
 use Rattle.std.specs.List.{flat_map}
 use Rattle.std.proofs.lemmas.List.{length-take-le, take_more, flat_map_more, set_at, take_at, drop_at, drop-drop, drop_more, length_push}
@@ -18,15 +18,9 @@ pub joined_length : {X A : Type 0} (f : X → List A) (w : ℕ) → ((x : X) →
 joined_length f w h [] = omega arith
 joined_length f w h (x ∷ xs) = let ih = joined_length f w h xs in let e = h x in simp length-append (omega arith)
 
--- the parts that a function gives by the element, one more and some of them
+-- the parts that a function gives by the element, one more of them
 pub joined_more : {X A : Type 0} (f : X → List A) (cs : List X) (d : X) (i : ℕ) → i < length cs → flat_map f (take (i + 1) cs) ≡ flat_map f (take i cs) ++ f (get_or cs i d)
 joined_more f cs d i h = ap (flat_map f) (take_more cs i d h) ∙ sym (flat_map_more f [] (take i cs) (get_or cs i d))
-
-pub joined_within : {X A : Type 0} (f : X → List A) (cs : List X) (i : ℕ) → length (flat_map f (take i cs)) ≤ length (flat_map f cs)
-joined_within f [] zero = omega arith
-joined_within f [] (suc i) = omega arith
-joined_within f (c ∷ cs) zero = omega arith
-joined_within f (c ∷ cs) (suc i) = let ih = joined_within f cs i in simp length-append (omega arith)
 
 -- one more of the parts of one length that a function gives by the element, behind something of a length of its own
 pub over_joined : {X : Type 0} (f : X → List ℕ) (w : ℕ) → ((c : X) → length (f c) ≡ w) → (h : List ℕ) (cs : List X) (d : X) (xs ys : List ℕ) (at i k : ℕ)

@@ -1,7 +1,7 @@
 -- Truth values as bits: a byte bit by bit, and the packed bytes by their index.
-use Rattle.std.proofs.Common.{◌≡◌, ℕ, zero, suc, ◌+◌, ◌-◌, ◌*◌, ◌/◌, ◌%◌, ◌^◌, ◌<◌, ◌≤◌, Bool, true, false, List, [], ◌∷◌, ◌++◌, map, length, get_or, take, drop, is_some, Some, None, Option, sym, refl, ap, ◌∙◌, subst, inl, inr, add-one, arith, length-append, length-drop}
+use Rattle.std.proofs.Common.{◌≡◌, ℕ, zero, suc, ◌+◌, ◌-◌, ◌*◌, ◌/◌, ◌%◌, ◌^◌, ◌<◌, ◌≤◌, Bool, true, false, List, [], ◌∷◌, ◌++◌, map, length, get_or, take, drop, set, None, Option, sym, refl, ap, ◌∙◌, subst, inl, inr, add-one, arith, length-append, length-drop}
+use mir.Val.{bool_byte}
 use Rattle.std.specs.List.{range_with_len as counting}
-use Rattle.std.specs.Option.{unwrap_or}
 use Rattle.std.proofs.lemmas.List.FromFn.{length-range_with_len, length-map-range_with_len, get_or-map-range_with_len, map-range_with_len_more}
 use Rattle.std.proofs.lemmas.List.{drop_at, take_all, drop-append-le, take-append-le, get_or_append_left, get_or-append_right, get_or_push, length-map, get_or-map, ext_get_or}
 use Rattle.std.proofs.lemmas.Nat.{pow_below}
@@ -9,8 +9,9 @@ use Rattle.std.proofs.lemmas.Bool.{cases_lt}
 use Rattle.std.proofs.Math.Nat.{pow-suc}
 use Rattle.std.proofs.Math.Pow.{pow_mono}
 use Rattle.column.specs.Columns.{part, count_up}
-use Rattle.layout.specs.Layout.{FlagParts, bit, binary, packed, known, holds, fits_flags}
+use Rattle.layout.specs.Layout.{FlagParts, bit, binary, packed, known, holds, over, fits_flags}
 use Rattle.layout.specs.Written.{flags_laid, flag_room}
+use Rattle.layout.proofs.Overs.{over_push}
 
 pub count_up_counting : (a n : ℕ) → count_up a n ≡ counting a n
 count_up_counting a zero = refl
@@ -43,6 +44,10 @@ binary_below (false ∷ bs) = let ih = binary_below bs in rw (pow-suc 2 (length 
 pub weight : (i : ℕ) → i < 8 → 1 * 2 ^ i % 256 ≡ 2 ^ i
 weight i h = let p : 2 ^ i < 256 = pow_below i 8 h in omega arith
 
+pub weight_bit : (b : Bool) (n i : ℕ) → n ≡ bool_byte b → i < 8 → n * 2 ^ i % 256 ≡ bit b * 2 ^ i
+weight_bit true n i e h = let w = weight i h in rw e (omega arith)
+weight_bit false n i e h = let w = weight i h in rw e (omega arith)
+
 -- a bit more keeps within a byte
 pub weight_fits : (bs : List Bool) (i : ℕ) → length bs ≡ i → i < 8 → binary bs + 2 ^ i < 256
 weight_fits bs i e h =
@@ -50,6 +55,10 @@ weight_fits bs i e h =
     let p : 2 ^ suc i ≤ 2 ^ 8 = let h' : suc i ≤ 8 = h in pow_mono h' in
     let q = pow-suc 2 i in
     omega arith
+
+pub bit_fits : (bs : List Bool) (b : Bool) (i : ℕ) → length bs ≡ i → i < 8 → binary bs + bit b * 2 ^ i < 256
+bit_fits bs true i e h = let w = weight_fits bs i e h in omega arith
+bit_fits bs false i e h = let w = weight_fits bs i e h in omega arith
 
 -- what holds of each bit, and of the next one
 pub told_push : (P : ℕ → Bool → Type 0) (bs : List Bool) (b : Bool) (n : ℕ) → length bs ≡ n → ((k : ℕ) → k < n → P k (get_or bs k false)) → P n b → (k : ℕ) → k < n + 1 → P k (get_or (bs ++ b ∷ []) k false)
@@ -94,6 +103,14 @@ packed_more bs xs j e l m =
     ∙ ap (λ p. p ++ f j ∷ []) (bytes_same f (byte_at bs) j (λ i h. byte_before bs xs j i e h) ∙ ap (λ k. map (byte_at bs) (counting 0 k)) (sym o) ∙ sym (packed_counting bs))
     ∙ ap (λ y. packed bs ++ y ∷ []) (byte_last bs xs j e m)
 
+-- one more byte written behind the bytes of bits
+pub byte_put : (bs xs : List Bool) (j n : ℕ) (out before : List ℕ) → length bs ≡ 8 * j → 0 < length xs → length xs ≤ 8 → n ≡ binary xs → j < length before → out ≡ over (packed bs) before → set out j n ≡ over (packed (bs ++ xs)) before
+byte_put bs xs j n out before e l m b h o =
+    let p = packed_length bs in
+    ap (λ ys. set ys j n) o
+    ∙ over_push (packed bs) before j n (omega arith) h
+    ∙ ap (λ z. over z before) (ap (λ y. packed bs ++ y ∷ []) b ∙ sym (packed_more bs xs j e l m))
+
 -- the truth values of so many rows, row by row
 pub shown_length : (v : Option Bool → Bool) (f : ℕ → Option Bool) (n : ℕ) → length (map v (map f (count_up 0 n))) ≡ n
 shown_length v f n = length-map (map f (count_up 0 n)) v ∙ length-map (count_up 0 n) f ∙ ap length (count_up_counting 0 n) ∙ length-range_with_len 0 n
@@ -104,29 +121,6 @@ shown_at v f n k h =
     ∙ get_or-map v (map f (counting 0 n)) k None false (let l = length-map-range_with_len f 0 n in omega arith)
     ∙ ap v (get_or-map-range_with_len f 0 n k k None h (omega arith))
 
-shown_all : (v : Option Bool → Bool) (f : ℕ → Option Bool) (n : ℕ) (bs : List Bool) → length bs ≡ n → ((k : ℕ) → k < n → get_or bs k false ≡ v (f k)) → bs ≡ map v (map f (count_up 0 n))
-shown_all v f n bs e h = let l = shown_length v f n in ext_get_or false _ _ (omega arith) (λ k g. h k (omega arith) ∙ sym (shown_at v f n k (omega arith)))
-
-pub known_all : (f : ℕ → Option Bool) (n : ℕ) (bs : List Bool) → length bs ≡ n → ((k : ℕ) → k < n → (o : Option Bool) × (o ≡ f k) × (get_or bs k false ≡ is_some o)) → bs ≡ map known (map f (count_up 0 n))
-known_all f n bs e h = shown_all known f n bs e (λ k l. let t = h k l in t.2 ∙ go t.0 ∙ ap known t.1)
-  where
-    go : (o : Option Bool) → is_some o ≡ known o
-    go None = refl
-    go (Some b) = refl
-
-pub holds_all : (f : ℕ → Option Bool) (n : ℕ) (bs : List Bool) → length bs ≡ n → ((k : ℕ) → k < n → (o : Option Bool) × (o ≡ f k) × (get_or bs k false ≡ unwrap_or o false)) → bs ≡ map holds (map f (count_up 0 n))
-holds_all f n bs e h = shown_all holds f n bs e (λ k l. let t = h k l in t.2 ∙ go t.0 ∙ ap holds t.1)
-  where
-    go : (o : Option Bool) → unwrap_or o false ≡ holds o
-    go None = refl
-    go (Some b) = refl
-
 -- the room that truth values need
 pub flags_fit : (f : ℕ → Option Bool) (n : ℕ) (before : FlagParts) → fits_flags (flags_laid f n) before ≡ flag_room n before
 flags_fit f n before = rw (packed_length (map known (map f (count_up 0 n))), packed_length (map holds (map f (count_up 0 n))), shown_length known f n, shown_length holds f n)
-
--- the cells that are there
-pub there_all : {X : Type 0} (xs : List (Option X)) (bs : List Bool) → length bs ≡ length xs → ((k : ℕ) → k < length xs → (x : Option X) × (x ≡ get_or xs k x) × (get_or bs k false ≡ is_some x)) → bs ≡ map is_some xs
-there_all xs bs e h =
-    let l = length-map xs is_some in
-    ext_get_or false _ _ (omega arith) (λ k g. let t = h k (omega arith) in t.2 ∙ ap is_some t.1 ∙ sym (get_or-map is_some xs k t.0 false (omega arith)))

@@ -1,62 +1,67 @@
 // Columns of records.
-ghost use Rattle.std.specs.Prelude.{◌≡◌, ◌+◌, ◌*◌, ◌≤◌, not, map, length, if◌then◌else◌, None, slice_index_or};
+ghost use Rattle.std.specs.Prelude.{◌≡◌, ◌+◌, ◌*◌, ◌≤◌, map, length, Some, None, slice_index_or};
 ghost use Rattle.std.specs.List.{flat_map};
 ghost use Rattle.column.specs.Cells.{fields_cell};
-ghost use Rattle.column.specs.Checks.{outcome, refuse};
-ghost use Rattle.layout.specs.declared.OutputFault.TheVariants as output;
-ghost use Rattle.layout.specs.Layout.{bit, has_field, record_content, over, fits, written};
-ghost use Rattle.layout.specs.Written.{parts_seen, records_laid};
+ghost use Rattle.column.specs.Columns.{count_up};
+ghost use Rattle.column.specs.Views.{view_seen};
+ghost use Rattle.layout.specs.Layout.{bit, has_field, field_bytes, record_content, over};
 
-use crate::bits::put_bits;
+use crate::CellSource;
 use crate::numbers::number_bytes;
-use crate::{Output, OutputFault};
+use column::CellView;
 
 // The presence byte of a record: its bits 0, 1 and 2 say which field is there.
-fn presence(fields: [Option<i64>; 3]) -> u8
-    ensures { result ≡ bit (has_field (slice_index_or fields 0 None)) + 2 * bit (has_field (slice_index_or fields 1 None)) + 4 * bit (has_field (slice_index_or fields 2 None)) }
+#[inline]
+fn presence(fields: &[Option<i64>; 3]) -> u8
+    ensures { result ≡ bit (has_field (slice_index_or fields.now 0 None)) + 2 * bit (has_field (slice_index_or fields.now 1 None)) + 4 * bit (has_field (slice_index_or fields.now 2 None)) }
 {
     u8::from(fields[0].is_some())
         + 2 * u8::from(fields[1].is_some())
         + 4 * u8::from(fields[2].is_some())
 }
 
-// The 25 bytes of a record, zero for a null.
-fn record_bytes(cell: Option<[Option<i64>; 3]>) -> [u8; 25]
-    ensures { result ≡ record_content (fields_cell cell) }
+// The eight bytes of a field, zero where it is absent.
+#[inline]
+fn field_bytes(field: Option<i64>) -> [u8; 8]
+    ensures { result ≡ field_bytes field }
+{
+    match field {
+        Some(number) => number_bytes(number),
+        None => [0; 8],
+    }
+}
+
+// The 25 bytes of a record.
+#[inline]
+fn record_bytes(fields: [Option<i64>; 3]) -> [u8; 25]
+    ensures { result ≡ record_content (fields_cell (Some fields)) }
 {
     let mut bytes = [0; 25];
-    if let Some(fields) = cell {
-        bytes[0] = presence(fields);
-        for (j, field) in fields.iter().enumerate() {
-            bytes[1 + 8 * j..9 + 8 * j].copy_from_slice(&number_bytes(*field));
-        }
+    bytes[0] = presence(&fields);
+    for (j, field) in fields.iter().enumerate() {
+        bytes[1 + 8 * j..9 + 8 * j].copy_from_slice(&field_bytes(*field));
     }
     bytes
 }
 
-// Writes the bytes of each record.
-fn put_data(out: &mut [u8], cells: &[Option<[Option<i64>; 3]>])
-    requires { 25 * length cells.now ≤ length out.old }
-    ensures { out.new ≡ over (flat_map record_content (map fields_cell cells.now)) out.old }
+// The 25 bytes of a cell in a column of records, zero for a null.
+#[inline]
+fn cell_bytes(cell: CellView) -> [u8; 25]
+    ensures { result ≡ record_content (view_seen cell.entry) }
 {
-    // By place, as in put_data of numbers, for the same reason.
-    for (i, cell) in cells.iter().enumerate() {
-        out[25 * i..25 * i + 25].copy_from_slice(&record_bytes(*cell));
+    match cell {
+        CellView::Fields(fields) => record_bytes(fields),
+        CellView::Null | CellView::Number(_) | CellView::Bytes(_) => [0; 25],
     }
 }
 
-impl<'a> Output<'a> {
-    // Writes a column of records, or nothing where a buffer is too short.
-    pub fn put_records(&mut self, cells: &[Option<[Option<i64>; 3]>]) -> Result<(), OutputFault>
-        ensures answer { result ≡ outcome (refuse (not (fits (records_laid cells.now) (parts_seen self.old))) output.Space) tt }
-        ensures after { parts_seen self.new ≡ (if fits (records_laid cells.now) (parts_seen self.old) then written (records_laid cells.now) (parts_seen self.old) else parts_seen self.old) }
-    {
-        // By a division, since 25 bytes for each of any number of cells may be more than a usize says.
-        if cells.len() > self.data.len() / 25 || cells.len().div_ceil(8) > self.validity.len() {
-            return Err(OutputFault::Space);
-        }
-        put_bits(self.validity, cells.len(), |k| cells[k].is_some());
-        put_data(self.data, cells);
-        Ok(())
+// Writes the bytes of each record.
+pub(crate) fn put_records<C: CellSource>(out: &mut [u8], cells: &C, rows: usize)
+    requires { 25 * rows ≤ length out.old }
+    ensures { out.new ≡ over (flat_map record_content (map (C.CellSource.shows cells.now) (count_up 0 rows))) out.old }
+{
+    // By place, as in put_numbers, for the same reason.
+    for row in 0..rows {
+        out[25 * row..25 * row + 25].copy_from_slice(&cell_bytes(cells.cell_view(row)));
     }
 }

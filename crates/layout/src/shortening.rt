@@ -7,7 +7,8 @@ ghost use Rattle.layout.specs.Written.{short_seen};
 use crate::ShortBytes;
 
 impl ShortBytes {
-    // The byte string; none where it has more than 32 bytes.
+    /// The byte string; none where it has more than 32 bytes.
+    #[inline]
     pub fn new(bytes: &[u8]) -> Option<ShortBytes>
         ensures { option_map short_seen result ≡ (if nat_le (length bytes.now) 32 then Some (octets bytes.now) else None) }
     {
@@ -18,14 +19,15 @@ impl ShortBytes {
         held[..bytes.len()].copy_from_slice(bytes);
         Some(ShortBytes {
             bytes: held,
-            len: bytes.len(),
+            len: bytes.len() as u8,
         })
     }
 
-    // Its bytes.
+    /// Its bytes.
+    #[inline]
     pub fn as_slice(&self) -> &[u8]
         ensures { result.now ≡ short_seen self.now }
     {
-        &self.bytes[..self.len]
+        &self.bytes[..self.len as usize]
     }
 }

@@ -1,4 +1,4 @@
-// Midnight: finished events leave the stage as a prefix, and the list of open group numbers follows.
+//! Midnight: finished events leave the stage as a prefix, and the list of open group numbers follows.
 #![tactic(auto)]
 
 ghost use Rattle.std.specs.Prelude.{◌≡◌, map, MatchResult};
@@ -6,7 +6,8 @@ ghost use Rattle.layout.specs.Written.{parts_seen};
 ghost use Rattle.book.specs.Calls.{evaluate};
 ghost use Rattle.grouped.specs.Accumulators.{Obeys};
 ghost use Rattle.grouped.specs.Notices.{renumbered};
-ghost use Rattle.grouped.specs.Seen.{to_seen, values_only};
+ghost use Rattle.keeping.specs.Replies.{values_only};
+ghost use Rattle.grouped.specs.Seen.{to_seen};
 ghost use Rattle.midnight.specs.Days.{day_seen};
 
 mod saving;
@@ -17,7 +18,9 @@ use layout::Output;
 pub use saving::save_day;
 use tables::{RowOrder, ValueState};
 
-// Writes the values of the first groups, drops these, and renumbers the open group numbers; answers how many left.
+/// Writes the values of the first groups, drops these, and renumbers the open group numbers; answers how many left.
+///
+/// Refused as `evaluate` is: then nothing is written, dropped or renumbered.
 pub fn close_day<S: ValueState, O: RowOrder>(
     stage: &mut FirstLastGroupsAccumulator<S, O>,
     leaving: EmitTo,

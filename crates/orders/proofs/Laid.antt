@@ -1,74 +1,73 @@
--- The numbers that an order holds, as they are laid out.
-use Rattle.std.proofs.Common.{◌≡◌, ℕ, zero, suc, ◌-◌, ◌<◌, ◌≤◌, List, [], ◌∷◌, ◌++◌, map, length, get_or, take, replicate, not, ℤ, Some, None, Ok, Err, Option, sym, refl, ap, ◌∙◌, ap₂, arith}
-use Rattle.std.proofs.lemmas.List.{length-map, length-take-le, length-append, take_at, take-map}
-use Rattle.column.specs.Cells.{null, number_cell}
-use Rattle.layout.specs.Layout.{Parts, laid_out, fits}
-use Rattle.layout.specs.Written.{numbers_laid}
+-- The key columns of both orders as they are laid out.
+use Rattle.std.proofs.Common.{◌≡◌, ℕ, zero, suc, ◌<◌, ◌≤◌, List, [], ◌∷◌, map, length, get_or, take, ℤ, None, Option, sym, refl, ap, ap₂, ◌∙◌, arith}
+use Rattle.std.proofs.lemmas.List.{length-map, take-map}
+use Rattle.column.specs.Cells.{numbers, strings, Cell, null, number_cell}
+use Rattle.column.specs.Columns.{count_up}
+use Rattle.layout.specs.Layout.{laid_out}
+use Rattle.layout.specs.Written.{rows_laid, short_cell}
+use Rattle.layout.proofs.Sources.{rows_front}
 use Rattle.tables.specs.Meaning.{column_cells}
-use Rattle.tables.specs.declared.Sorting.{Sorting}
-use Rattle.tables.specs.Delivered.{number_order}
-use Rattle.tables.specs.Refusals.{key_laid, measuring_key, writing_key}
-use Rattle.column.specs.Checks.{outcome, refuse}
-use Rattle.layout.specs.declared.OutputFault.{OutputFault}
-use Rattle.layout.specs.declared.OutputFault.TheVariants as output
-use Rattle.tables.specs.declared.OrderFault.TheVariants as order
+use Rattle.tables.specs.Refusals.{key_laid, measuring_key}
 use Rattle.tables.proofs.Declining.{drop_within}
+use Rattle.tables.proofs.Held.{cell_first}
 use Rattle.tables.proofs.Ordering.{number_kinds}
-use Rattle.tables.proofs.Passing.{measuring_within, writing_key_short, writing_key_fine, put_fails, put_fits}
-use Rattle.orders.specs.declared.order_table.NumberOrder.{NumberOrder}
-use Rattle.orders.specs.Held.{order_entries, order_settings}
-use Rattle.orders.specs.Keys.{column_numbers}
-use Rattle.orders.proofs.Reading.{kinds_long}
+use Rattle.tables.proofs.Passing.{measuring_within}
+use Rattle.orders.specs.declared.number.NumberOrder.{NumberOrder}
+use Rattle.orders.specs.declared.text.TextOrder.{TextOrder}
+use Rattle.orders.specs.Texts as text
+use Rattle.orders.specs.Numbers.{key_cells, order_entries, order_settings}
+use Rattle.orders.proofs.Numbers.{kinds_long, held_cell}
 
-column_numbered : (count j : ℕ) (ks : List (List (Option ℤ))) (n : ℕ) → j < count → take n (column_cells j (map (λ k. map number_cell (take count k)) ks)) ≡ map number_cell (column_numbers j (take n ks))
-column_numbered count j ks n h = ap (take n) (go ks) ∙ take-map number_cell n (column_numbers j ks) ∙ ap (map number_cell) (take-map (λ k. get_or k j None) n ks)
-  where
-    at : (k : List (Option ℤ)) (j count : ℕ) → j < count → get_or (map number_cell (take count k)) j null ≡ number_cell (get_or k j None)
-    at [] j zero h = refl
-    at [] j (suc count) h = refl
-    at (x ∷ k) j zero h = absurd (omega arith)
-    at (x ∷ k) zero (suc count) h = refl
-    at (x ∷ k) (suc j) (suc count) h = at k j count (omega arith)
+-- what a key column shows in a row
+abbrev pub number_of : List (List (Option ℤ)) → ℕ → ℕ → Cell
+number_of ks j r = number_cell (get_or (get_or ks r []) j None)
 
-    go : (ms : List (List (Option ℤ))) → column_cells j (map (λ k. map number_cell (take count k)) ms) ≡ map number_cell (column_numbers j ms)
-    go [] = refl
-    go (m ∷ ms) = ap₂ (λ x l. x ∷ l) (at m j count h) (go ms)
+number_in_column : (n j : ℕ) (ks : List (List (Option ℤ))) → j < n → (r : ℕ) → number_of ks j r ≡ get_or (column_cells j (map (key_cells n) ks)) r null
+number_in_column n j [] h r = refl
+number_in_column n j (k ∷ ks) h zero = sym (held_cell k n j h)
+number_in_column n j (k ∷ ks) h (suc r) = number_in_column n j ks h r
 
-pub order_laid : (ss : List Sorting) (count j : ℕ) (ks : List (List (Option ℤ))) (n : ℕ) → j < count → key_laid (number_order ss) (map (λ k. map number_cell (take count k)) ks) j n ≡ numbers_laid (column_numbers j (take n ks))
-order_laid ss count j ks n h = ap₂ laid_out (number_kinds ss j) (column_numbered count j ks n h)
+map_same : {X Y : Type 0} (f g : X → Y) → ((x : X) → f x ≡ g x) → (xs : List X) → map f xs ≡ map g xs
+map_same f g e [] = refl
+map_same f g e (x ∷ xs) = ap₂ (λ y ys. y ∷ ys) (e x) (map_same f g e xs)
 
-pub order_within : (o : NumberOrder) (j n : ℕ) → measuring_key (order_settings o) (order_entries o) j n ≡ None → (j < o.count) × (n ≤ length o.keys)
+pub order_within : (o : NumberOrder) (j n : ℕ) → measuring_key (order_settings o) (order_entries o) j n ≡ None → (j < o.sorts.count) × (n ≤ length o.keys)
 order_within o j n e =
     let w = measuring_within (order_settings o) (order_entries o) j n e in
-    let s = o.sortings in
-    let t = o.three in
-    let a = kinds_long o.sorts o.count (omega arith) in
-    let b = length-map o.keys (λ k. map number_cell (take o.count k)) in
+    let s = o.sorts.whole in
+    let t = o.sorts.few in
+    let a = kinds_long o.sorts.table o.sorts.count (omega arith) in
+    let b = length-map o.keys (key_cells o.sorts.count) in
     let d = drop_within (length (order_entries o)) n w.1 in
     (let i = w.0 in omega arith, omega arith)
 
-pub column_long : (j : ℕ) (ks : List (List (Option ℤ))) (n : ℕ) → n ≤ length ks → length (column_numbers j (take n ks)) ≡ n
-column_long j ks n l = length-map (take n ks) _ ∙ length-take-le n ks l
+pub column_laid : (o : NumberOrder) (j n : ℕ) → measuring_key (order_settings o) (order_entries o) j n ≡ None → rows_laid numbers (λ r. number_of o.keys j r) n ≡ key_laid (order_settings o) (order_entries o) j n
+column_laid o j n e =
+    let w = order_within o j n e in
+    let h = w.0 in
+    let k = w.1 in
+    let l = length-map (order_entries o) (λ e. get_or e j null) in
+    let m = length-map o.keys (key_cells o.sorts.count) in
+    ap (laid_out numbers)
+    (map_same (λ r. number_of o.keys j r) (λ r. get_or (column_cells j (order_entries o)) r null) (number_in_column o.sorts.count j o.keys h) (count_up 0 n)
+    ∙ rows_front (column_cells j (order_entries o)) null n (omega arith))
+    ∙ ap (λ x. laid_out x (take n (column_cells j (order_entries o)))) (sym (number_kinds (take o.sorts.count o.sorts.table) j))
 
--- what the code gathers of a key column and writes
-pub gathered_laid : (o : NumberOrder) (j n : ℕ) (xs : List (Option ℤ)) → j < o.count → n ≤ length o.keys → xs ≡ column_numbers j (take n o.keys) ++ replicate (256 - n) None → key_laid (order_settings o) (order_entries o) j n ≡ numbers_laid (take n xs)
-gathered_laid o j n xs h l e =
-    order_laid (take o.count o.sorts) o.count j o.keys n h
-    ∙ ap numbers_laid (sym (ap (take n) e ∙ take_at (column_numbers j (take n o.keys)) (replicate (256 - n) None) n (column_long j o.keys n l)))
+-- by the column that the code makes of the order's keys
+pub made_laid : (o : NumberOrder) (j n : ℕ) (ks : List (List (Option ℤ))) (i : ℕ) → ks ≡ o.keys → i ≡ j → measuring_key (order_settings o) (order_entries o) j n ≡ None → rows_laid numbers (λ r. number_of ks i r) n ≡ key_laid (order_settings o) (order_entries o) j n
+made_laid o j n ks i e f p = ap₂ (λ ms m. rows_laid numbers (λ r. number_of ms m r) n) e f ∙ column_laid o j n p
 
-pub gathered_long : (j n : ℕ) (ks : List (List (Option ℤ))) (xs : List (Option ℤ)) → n ≤ length ks → xs ≡ column_numbers j (take n ks) ++ replicate (256 - n) None → n ≤ length xs
-gathered_long j n ks xs l e =
-    let a = column_long j ks n l in
-    let b = ap length e ∙ length-append (column_numbers j (take n ks)) (replicate (256 - n) None) in omega arith
+-- Texts
 
--- What the output's own answer says of the call that writes a key column out
+pub text_within : (o : TextOrder) (j n : ℕ) → measuring_key (text.order_settings o) (text.order_entries o) j n ≡ None → (j ≡ 0) × (n ≤ length o.keys)
+text_within o j n e =
+    let w = measuring_within (text.order_settings o) (text.order_entries o) j n e in
+    let b = length-map o.keys text.text_key in
+    let d = drop_within (length (text.order_entries o)) n w.1 in
+    (let i = w.0 in omega arith, omega arith)
 
-module _ (o : NumberOrder) (j n : ℕ) (before : Parts) (xs : List (Option ℤ)) (p : measuring_key (order_settings o) (order_entries o) j n ≡ None) (e : xs ≡ column_numbers j (take n o.keys) ++ replicate (256 - n) None) where
-  pub column_laid : key_laid (order_settings o) (order_entries o) j n ≡ numbers_laid (take n xs)
-  column_laid = let w = order_within o j n p in gathered_laid o j n xs w.0 w.1 e
-
-  pub key_fails : (f : OutputFault) → Err f ≡ outcome (refuse (not (fits (numbers_laid (take n xs)) before)) output.Space) (tt {0}) → writing_key (order_settings o) (order_entries o) j n before ≡ Some order.Space
-  key_fails f r = writing_key_short (order_settings o) (order_entries o) j n before p (ap (λ l. fits l before) column_laid ∙ put_fails _ f r)
-
-  pub key_fits : Ok (tt {0}) ≡ outcome (refuse (not (fits (numbers_laid (take n xs)) before)) output.Space) (tt {0}) → writing_key (order_settings o) (order_entries o) j n before ≡ None
-  key_fits r = writing_key_fine (order_settings o) (order_entries o) j n before p (ap (λ l. fits l before) column_laid ∙ put_fits _ r)
+pub texts_laid : (o : TextOrder) (j n : ℕ) → measuring_key (text.order_settings o) (text.order_entries o) j n ≡ None → laid_out strings (map short_cell (take n o.keys)) ≡ key_laid (text.order_settings o) (text.order_entries o) j n
+texts_laid o j n p =
+    sym (ap (λ i. key_laid (text.order_settings o) (text.order_entries o) i n) (text_within o j n p).0
+    ∙ ap (λ cs. laid_out strings (take n cs)) (cell_first short_cell o.keys)
+    ∙ ap (laid_out strings) (take-map short_cell n o.keys))

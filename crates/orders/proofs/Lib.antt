@@ -1,6 +1,7 @@
-pub mod Deciding
+pub mod Asking
 pub mod Laid
-pub mod Reading
-pub mod Shown
-pub mod Verdicts
-pub mod Same
+pub mod Leads
+pub mod Numbers
+pub mod Putting
+pub mod Texts
+pub mod Words

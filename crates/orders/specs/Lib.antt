@@ -1,3 +1,3 @@
-pub mod Held
-pub mod Comparing
-pub mod Keys
+pub mod Counted
+pub mod Numbers
+pub mod Texts

@@ -1,8 +1,10 @@
-// The row order of numbers.
+//! The row orders that come with the stage: by one to three columns of numbers, and by one column of byte strings.
 #![tactic(auto)]
 
-mod order;
-mod order_rows;
-mod order_table;
+mod key_column;
+mod number;
+mod sortings;
+mod text;
 
-pub use order_table::NumberOrder;
+pub use number::NumberOrder;
+pub use text::TextOrder;

@@ -8,7 +8,7 @@ use Rattle.column.specs.Faults.{Fault, fault, GROUP, in_accumulator}
 use Rattle.book.specs.Winners.{Row, Making, Lawful, beats, top_rows, earliest, winners}
 use Rattle.book.specs.Batches.{Book, Given, every_row, row_at, admitted, entries, entered}
 use Rattle.book.specs.Declines.{at_row, cols, kind, rows, null_flag, batch_declined, ungrouped_declined}
-use Rattle.grouped.specs.Seen.{no_outputs}
+use Rattle.keeping.specs.Replies.{no_outputs}
 use Rattle.book.specs.Calls.{update, taken_in, after}
 use Rattle.book.proofs.Following.{winners_length}
 use Rattle.book.proofs.ByGroup.{stored}

@@ -14,7 +14,7 @@ use Rattle.book.specs.Winners.{Row, Making, Lawful, unbeaten, earliest, winner}
 use Rattle.book.specs.Batches.{Book, Given, Batch}
 use Rattle.book.specs.Emission.{Outputs}
 use Rattle.book.specs.Calls as Grouped
-use Rattle.grouped.specs.Seen.{no_outputs}
+use Rattle.keeping.specs.Replies.{no_outputs}
 use Rattle.agreement.specs.Deciding.{WinnersAgree}
 use Rattle.ungrouped.specs.Rows.{Alone, latest}
 use Rattle.ungrouped.specs.Held.{shown_row}

@@ -11,6 +11,7 @@ use Rattle.tables.specs.declared.table.GroupTable.{Ghosts}
 use Rattle.book.specs.Winners.{Making, earliest}
 use Rattle.book.specs.Batches.{Given}
 use Rattle.agreement.specs.Deciding.{MadeAlike, WinnersAgree}
+use Rattle.keeping.specs.Keepers.{cells, keys}
 use Rattle.grouped.specs.declared.FirstLastGroupsAccumulator.{FirstLastGroupsAccumulator}
 use Rattle.grouped.specs.Accumulators as Grouped
 use Rattle.grouped.specs.Reached as GroupedReached
@@ -25,12 +26,12 @@ TopsAgree m gs = (group (fed_all m [] gs) ≡ []) ⊎ WinnersAgree (earliest (de
 
 module _ {S O F G : Type 0} {s : Ghosts S F} {o : Ghosts O G} where
   pub record Equal (a : FirstLastGroupsAccumulator S O F G s o) (l : Single S O F G s o) : Type 0 where
-    pub flag : slice_index_or a.slots.set 0 false ≡ is_some l.held
-    pub value : slice_index_or (first_cells (s.entries a.state)) 0 null ≡ slice_index_or (first_cells (s.entries l.state)) 0 null
-    pub key : slice_index_or (o.entries a.order) 0 (map (λ k. null) (Grouped.order_settings a).kinds) ≡ slice_index_or (o.entries l.order) 0 []
+    pub flag : slice_index_or (Grouped.held a).flags 0 false ≡ is_some l.held
+    pub value : slice_index_or (first_cells (Grouped.held a).cells) 0 null ≡ slice_index_or (first_cells (cells l.keeper)) 0 null
+    pub key : slice_index_or (Grouped.held a).keys 0 (map (λ k. null) (Grouped.making a).order.kinds) ≡ slice_index_or (keys l.keeper) 0 []
 
   abbrev pub ShowSame : FirstLastGroupsAccumulator S O F G s o → Single S O F G s o → Type 0
-  ShowSame a l = WinnersAgree (GroupedReached.winner_shown (Grouped.held a) 0) (UngroupedReached.row_shown l)
+  ShowSame a l = WinnersAgree (GroupedReached.winner_shown a 0) (UngroupedReached.row_shown l)
 
   abbrev pub TiesDecideOf : FirstLastGroupsAccumulator S O F G s o → Single S O F G s o → Type 0
   TiesDecideOf a l =

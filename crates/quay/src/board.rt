@@ -5,12 +5,12 @@ use crate::events::Events;
 use crate::saved::Saved;
 use crate::texts::Texts;
 use anyhow::anyhow;
-use byte_values::BytesValueState;
 use grouped::{EmitTo, FirstLastGroupsAccumulator};
 use midnight::{close_day, save_day};
+use orders::TextOrder;
 use std::alloc::Global;
 use tables::Sorting;
-use text_orders::TextOrder;
+use values::BytesValueState;
 
 // The stage of labels, and its events.
 #[derive(Drop)]

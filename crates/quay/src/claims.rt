@@ -2,10 +2,10 @@
 use crate::declined::Declined;
 use crate::events::Events;
 use crate::texts::Texts;
-use byte_values::BytesValueState;
 use grouped::FirstLastGroupsAccumulator;
+use orders::TextOrder;
 use std::alloc::Global;
-use text_orders::TextOrder;
+use values::BytesValueState;
 
 // A stage of labels: a text for each event, FIRST by one text.
 pub type Labels = FirstLastGroupsAccumulator<BytesValueState, TextOrder>;

@@ -5,7 +5,7 @@ use grouped::FINISHED;
 use std::alloc::{AllocError, Global};
 
 // The group number of each event, and how many groups are held.
-// By a rule of the project the group numbers are a list of numbers, which a shift notice is spent on.
+// The numbers are a list, since a shift notice is spent on one.
 #[derive(Drop)]
 pub struct Events {
     pub groups: Vec<u32>,

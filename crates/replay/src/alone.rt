@@ -2,10 +2,10 @@
 use crate::answers::{malformed, settled, taken};
 use crate::emissions::{StateBuffers, value_buffers};
 use crate::given::{Stop, flags, given};
-use checks::Given;
 use column::BoolColumn;
 use faults::Fault;
 use grouped::StateOutput;
+use keeping::Given;
 use layout::Output;
 use scenario::{Call, Columns, Marks, Reads, Room, SingleCall};
 use std::alloc::{AllocError, Global};

@@ -1,7 +1,7 @@
 // The columns of a call, made of the parts that a scenario writes.
-use checks::Given;
 use column::{BoolColumn, Column, ColumnFault};
 use faults::{Fault, Place};
+use keeping::Given;
 use scenario::{Columns, Marks, Parts};
 use std::alloc::AllocError;
 use std::fmt;

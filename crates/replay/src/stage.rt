@@ -4,17 +4,14 @@ ghost use Rattle.scenario.specs.Accumulators.{reads_of};
 
 use crate::alone::play;
 use crate::calls::perform;
-use byte_values::BytesValueState;
 use column::Kind;
 use grouped::FirstLastGroupsAccumulator;
-use orders::NumberOrder;
-use record_values::RecordValueState;
+use orders::{NumberOrder, TextOrder};
 use scenario::{Call, Form, Making, Order, Reads};
 use std::alloc::{AllocError, Global};
 use tables::{RowOrder, ValueState};
-use text_orders::TextOrder;
 use ungrouped::{FirstValueAccumulator, LastValueAccumulator};
-use values::NumberValueState;
+use values::{BytesValueState, NumberValueState, RecordValueState};
 
 // An accumulator on the heap, since its tables are large.
 #[derive(Drop)]

@@ -6,7 +6,6 @@ use Rattle.std.specs.Option.{option_map, unwrap_or}
 use Rattle.std.proofs.lemmas.List.{map-append, flat_map_more, length-map}
 use Rattle.column.specs.Cells.{Kind, numbers, strings, records, Cell, null, number, text, fields, number_cell, text_cell, fields_cell, is_null}
 use Rattle.layout.specs.Layout.{laid_out, offsets_from, field_bytes, number_content, string_content, record_content}
-use Rattle.layout.proofs.Contents.{number_there, record_there, field_bytes_is}
 use Rattle.hex.specs.Hex.{decode_of}
 use Rattle.scenario.proofs.Parting.{AllZip-push}
 use Rattle.scenario.proofs.Telling.{found_on}
@@ -17,6 +16,20 @@ use Rattle.scenario.specs.Cells.{IsCell, Holds, OffsetsReach, kind_number}
 use Rattle.scenario.specs.Packing.{validity_bytes}
 use Rattle.scenario.specs.Reading.{Told, Found, Finds}
 use Rattle.scenario.specs.Texts.{IsInteger, IsBytes}
+
+-- a cell is null just where its value is not there
+number_there : (o : Option ℤ) → not (is_null (number_cell o)) ≡ is_some o
+number_there None = refl
+number_there (Some z) = refl
+
+record_there : (o : Option (List (Option ℤ))) → not (is_null (fields_cell o)) ≡ is_some o
+record_there None = refl
+record_there (Some fs) = refl
+
+-- a number that may be absent has the bytes that its cell has in a column of numbers
+field_bytes_is : (o : Option ℤ) → number_content (number_cell o) ≡ field_bytes o
+field_bytes_is None = refl
+field_bytes_is (Some z) = refl
 
 -- a cell of a number, by what was read
 pub number_read : (t : List ℕ) (o : Option ℤ) (A : Type 0) (R : ℤ → Type 0) → MatchOption o (t ≡ codes "null") (λ z. A × R z) → ((z : ℤ) → R z → IsInteger t z) → IsCell numbers t (number_cell o)

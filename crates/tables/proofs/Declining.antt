@@ -1,13 +1,12 @@
 -- What a table's calls decline, case by case.
-use Rattle.std.proofs.Common.{◌≡◌, ℕ, ◌<◌, ◌≤◌, Bool, true, false, not, List, [], ◌∷◌, map, length, get_or, IsErrAnd, Some, None, Ok, Err, Option, Result, sym, refl, ap, ◌∙◌, arith}
-use Rattle.std.proofs.lemmas.List.{length-map, get_or-map}
+use Rattle.std.proofs.Common.{◌≡◌, ℕ, ◌≤◌, Bool, true, false, not, List, [], ◌∷◌, length, IsErrAnd, Some, None, Ok, Err, Option, Result, sym, refl, ap, ◌∙◌, ⊎_elim, arith}
+use Rattle.std.proofs.lemmas.Option.{slice_get_within, slice_get_cases, get_or_from_slice_get}
 use Rattle.std.proofs.lemmas.Bool.{le-ltb, ltb-false, le-leb, lt-leb}
 use Rattle.std.proofs.lemmas.Result.{err_from_is_err_and}
+use Rattle.std.specs.List.{slice_get}
 use Rattle.std.specs.Option.{option_map}
 use Rattle.column.specs.Checks.{outcome, unless_refused, refuse, first_of}
-use Rattle.column.specs.Cells.{Cell, same_kind}
-use Rattle.column.specs.declared.Kind as code
-use Rattle.column.specs.Seen.{kind_seen}
+use Rattle.column.specs.Cells.{Kind, Cell, same_kind}
 use Rattle.layout.specs.Layout.{Parts, fits}
 use Rattle.column.specs.Columns.{Column}
 use Rattle.tables.specs.declared.TableFault.{TableFault}
@@ -36,11 +35,6 @@ answer_none o y e = ap (λ t. outcome t y) (sym e)
 pub answer_some : {F X : Type 0} (o : Option F) (f : F) (y : X) → o ≡ Some f → Err f ≡ outcome o y
 answer_some o f y e = ap (λ t. outcome t y) (sym e)
 
--- two answers that are the same wherever the check passes
-pub outcome_same : {F X : Type 0} (o : Option F) (x y : X) → (o ≡ None → x ≡ y) → outcome o x ≡ outcome o y
-outcome_same None x y h = ap Ok (h refl)
-outcome_same (Some f) x y h = refl
-
 pub passed_new : {F X : Type 0} (o : Option F) (new old : X) → o ≡ None → new ≡ unless_refused o new old
 passed_new o new old e = ap (λ t. unless_refused t new old) (sym e)
 
@@ -61,6 +55,10 @@ pub first_passed : {F : Type 0} (o : Option F) (os : List (Option F)) → first_
 first_passed None os e = (refl, e)
 first_passed (Some f) os e = absurd (some≢none e)
 
+pub first_alone : {F : Type 0} (o : Option F) → first_of (o ∷ []) ≡ o
+first_alone None = refl
+first_alone (Some f) = refl
+
 -- what a check that declines says
 pub first_declined : {F : Type 0} {f : F} (o : Option F) (os : List (Option F)) → o ≡ Some f → first_of (o ∷ os) ≡ Some f
 first_declined o os e = rw e
@@ -68,6 +66,11 @@ first_declined o os e = rw e
 pub refuse_passed : {F : Type 0} (b : Bool) (f : F) → refuse b f ≡ None → b ≡ false
 refuse_passed true f e = absurd (some≢none e)
 refuse_passed false f e = refl
+
+-- what a refusal says of its test
+pub refused_test : {F : Type 0} (b : Bool) (f g : F) → refuse b f ≡ Some g → (b ≡ true) × (f ≡ g)
+refused_test true f g e = (refl, cc)
+refused_test false f g e = absurd (some≢none (sym e))
 
 -- a last check that never holds where the others pass
 pub never_last : {F : Type 0} (o : Option F) (b : Bool) (f : F) → (o ≡ None → b ≡ false) → first_of (o ∷ refuse b f ∷ []) ≡ o
@@ -106,15 +109,15 @@ both_fine f o p r h k e = e ∙ ap (λ x. outcome (option_map f x) (tt {0})) h �
 pub both_new : {F G X : Type 0} (o : Option F) (p : Option G) (x new old : X) → o ≡ None → p ≡ None → x ≡ unless_refused o new old → x ≡ unless_refused p new old
 both_new o p x new old h k e = e ∙ ap (λ y. unless_refused y new old) h ∙ ap (λ y. unless_refused y new old) (sym k)
 
--- a column read in a place that there is, by the code's kinds
-pub named_is : (ks : List code.Kind) (j : ℕ) (c : Column) (d : code.Kind) → j < length ks → named_unread (map kind_seen ks) j c ≡ refuse (not (same_kind c.kind (kind_seen (get_or ks j d)))) order.Kind
+-- a column in a place of which the kind is known
+pub named_some : (ks : List Kind) (j : ℕ) (c : Column) (k : Kind) → Some k ≡ slice_get ks j → named_unread ks j c ≡ refuse (not (same_kind c.kind k)) order.Kind
 unfolding named_unread
-named_is ks j c d h = let l = length-map ks kind_seen in rw (lt-leb (length (map kind_seen ks)) j (omega arith), get_or-map kind_seen ks j d c.kind h) (alone (not (same_kind c.kind (kind_seen (get_or ks j d)))))
-  where
-    alone : (t : Bool) → first_of (refuse t order.Kind ∷ []) ≡ refuse t order.Kind
-    alone true = refl
-    alone false = refl
+named_some ks j c k e = rw (lt-leb (length ks) j (slice_get_within ks j k (sym e)), get_or_from_slice_get ks j k c.kind (sym e)) (first_alone (refuse (not (same_kind c.kind k)) order.Kind))
 
-pub named_past : (ks : List code.Kind) (j : ℕ) (c : Column) → length ks ≤ j → named_unread (map kind_seen ks) j c ≡ Some order.Cols
+-- there is no such place
+pub named_none : (ks : List Kind) (j : ℕ) (c : Column) → None ≡ slice_get ks j → named_unread ks j c ≡ Some order.Cols
 unfolding named_unread
-named_past ks j c h = let l = length-map ks kind_seen in rw (le-leb (length (map kind_seen ks)) j (omega arith))
+named_none ks j c e = ⊎_elim
+    (λ t. absurd (some≢none (sym t.2 ∙ sym e)))
+    (λ t. rw (le-leb (length ks) j t.0))
+    (slice_get_cases ks j).1

@@ -1,29 +1,32 @@
--- The front of a fixed table, of which the first so many elements count, after a drop, a growth and a set.
+-- The middle of a fixed table, of which so many elements from a place on count, after a drop, a growth, a move and a set.
 use Rattle.std.proofs.Common.{◌≡◌, ℕ, zero, suc, ◌+◌, ◌-◌, ◌<◌, ◌≤◌, List, [], ◌∷◌, ◌++◌, map, length, get_or, take, drop, set, replicate, Option, Some, None, sym, refl, ap, ◌∙◌, ap₂, arith}
-use Rattle.std.proofs.lemmas.List.{length-take-le, length-drop, take_at, drop-take, length-replicate, length-map, map-append, drop-map, append_assoc, take_more, set-append_right}
+use Rattle.std.proofs.lemmas.List.{length-take-le, length-drop, drop-take, length-replicate, length-map, map-append, drop-map, append_assoc, take_more, set-append_right, drop-drop, drop-append-le, drop-set-add}
 use Rattle.std.proofs.lemmas.Slice.{take-put_mid}
-use Rattle.std.specs.List.{copy_within}
 use borrow.Rule.Slice.PartMut.{put_mid}
 use Rattle.column.specs.Cells.{Kind, Cell, null}
 use Rattle.column.specs.Checks.{unless_refused}
 use Rattle.tables.specs.Refusals.{growing, grown_entries, dropping}
 
--- the front without its first n, moved to the start
-pub front_moved : {X : Type 0} (xs : List X) (len n : ℕ) → n ≤ len → len ≤ length xs → take (len - n) (copy_within xs n len 0) ≡ drop n (take len xs)
-front_moved xs len n h l =
-    let d = length-drop n xs in
-    take_at (take (len - n) (drop n xs)) (drop (0 + (len - n)) xs) (len - n) (length-take-le (len - n) (drop n xs) (omega arith))
-    ∙ sym (drop-take n (len - n) xs)
-    ∙ ap (λ k. drop n (take k xs)) (let z : n + (len - n) ≡ len = omega arith in z)
+-- the middle without its first n
+pub middle_dropped : {X : Type 0} (xs : List X) (start len n : ℕ) → n ≤ len → take (len - n) (drop (start + n) xs) ≡ drop n (take len (drop start xs))
+middle_dropped xs start len n h =
+    ap (take (len - n)) (sym (drop-drop n start xs))
+    ∙ sym (drop-take n (len - n) (drop start xs))
+    ∙ ap (λ k. drop n (take k (drop start xs))) (let z : n + (len - n) ≡ len = omega arith in z)
 
--- the places from len up to the total, written over by x
-pub front_filled : {X : Type 0} (xs ys : List X) (x : X) (len total : ℕ) → len ≤ total → total ≤ length xs → ys ≡ replicate (length (take (total - len) (drop len xs))) x
-    → take total (put_mid len (total - len) xs ys) ≡ take len xs ++ replicate (total - len) x
-front_filled xs ys x len total h l e =
-    let d = length-drop len xs in
-    let q = e ∙ ap (λ k. replicate k x) (length-take-le (total - len) (drop len xs) (omega arith)) in
+-- the places behind the middle up to a total, written over by x
+pub middle_filled : {X : Type 0} (xs ys : List X) (x : X) (start len total : ℕ) → len ≤ total → start + total ≤ length xs → ys ≡ replicate (length (take ((start + total) - (start + len)) (drop (start + len) xs))) x
+    → take total (drop start (put_mid (start + len) ((start + total) - (start + len)) xs ys)) ≡ take len (drop start xs) ++ replicate (total - len) x
+middle_filled xs ys x start len total h l e =
+    let d = length-drop (start + len) xs in
+    let f = length-take-le (start + len) xs (omega arith) in
+    let z : (start + total) - (start + len) ≡ total - len = omega arith in
+    let q = e ∙ ap (λ k. replicate k x) (length-take-le ((start + total) - (start + len)) (drop (start + len) xs) (omega arith) ∙ z) in
     let m = ap length q ∙ length-replicate (total - len) x in
-    take-put_mid len (total - len) xs ys total (omega arith) (omega arith) ∙ ap (λ r. take len xs ++ r) q
+    sym (drop-take start total (put_mid (start + len) ((start + total) - (start + len)) xs ys))
+    ∙ ap (drop start) (take-put_mid (start + len) ((start + total) - (start + len)) xs ys (start + total) (omega arith) (omega arith))
+    ∙ drop-append-le start (take (start + len) xs) ys (omega arith)
+    ∙ ap₂ (λ a b. a ++ b) (drop-take start len xs) q
 
 pub front_set : {X : Type 0} (xs : List X) (len g : ℕ) (x : X) → g < len → take len (set xs g x) ≡ set (take len xs) g x
 front_set [] zero g x h = refl
@@ -31,6 +34,9 @@ front_set [] (suc len) g x h = refl
 front_set (y ∷ xs) zero g x h = absurd (omega arith)
 front_set (y ∷ xs) (suc len) zero x h = refl
 front_set (y ∷ xs) (suc len) (suc g) x h = ap (λ l. y ∷ l) (front_set xs len g x (omega arith))
+
+pub middle_set : {X : Type 0} (xs : List X) (start len g : ℕ) (x : X) → g < len → take len (drop start (set xs (start + g) x)) ≡ set (take len (drop start xs)) g x
+middle_set xs start len g x h = ap (take len) (drop-set-add start xs g x) ∙ front_set (drop start xs) len g x h
 
 mapped : {F X Y : Type 0} (f : X → Y) (o : Option F) (new old : List X) → map f (unless_refused o new old) ≡ unless_refused o (map f new) (map f old)
 mapped f None new old = refl

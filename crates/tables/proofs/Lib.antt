@@ -4,9 +4,10 @@ pub mod Held
 pub mod Numbers
 pub mod Ordering
 pub mod Passing
+pub mod AsRead
+pub mod Provided
 pub mod Records
 pub mod Taking
 pub mod Walking
-pub mod Ruled
 pub mod Short
 pub mod Strings

@@ -1,62 +1,93 @@
--- The relations that come with the stage are total and transitive, and the states and orders keep their laws.
-use Rattle.std.proofs.Common.{◌≡◌, ℕ, zero, suc, ◌<◌, Bool, true, ◌&&◌, ◌||◌, ltb, leb, List, [], ◌∷◌, map, length, get_or, ℤ, Some, None, Option, refl, arith}
+-- The comparisons that come with the stage are total orders, and the states and orders keep their laws.
+use Rattle.std.proofs.Common.{◌≡◌, ℕ, zero, suc, ◌<◌, Bool, true, cond, not, ◌&&◌, ◌||◌, ltb, leb, List, [], ◌∷◌, map, length, get_or, ℤ, Some, None, Option, Ordering, Less, Equal, Greater, sym, refl, ap, ◌∙◌, arith}
+use Rattle.std.specs.Cmp.{IsTotalOrder}
 use Rattle.std.specs.List.{AllByRecursion}
-use Rattle.std.proofs.lemmas.Int.{ints}
-use Rattle.std.proofs.lemmas.Bool.{ltb-true, leb-true, and_parts, false≢true}
-use Rattle.column.specs.Cells.{numbers, strings, records, Cell, null, number, text, fields, FieldFits, Proper}
+use Rattle.std.specs.Ordering.{is_le, is_gt, ordering_reverse}
+use Rattle.std.proofs.lemmas.Cmp.{upto, alike_right, int_cmp_total, on_total, then_total}
+use Rattle.std.proofs.lemmas.Bool.{ltb-true, leb-true, and_parts, false≢true, not-true}
+use Rattle.column.specs.Cells.{Kind, numbers, strings, records, Cell, null, number, text, fields, FieldFits, Proper}
 use Rattle.tables.specs.declared.Sorting.{Sorting}
 use Rattle.tables.specs.Meaning.{StateLaws, OrderLaws, state_of}
-use Rattle.tables.specs.Delivered.{sorted_leq, head_cell, tail_cells, by_columns, as_number, number_leq, all_bytes, takes_number, takes_text, takes_field, takes_record, number_state, bytes_state, record_state, number_order}
+use Rattle.tables.specs.Missing.{sorted_verdict}
+use Rattle.tables.specs.Refusals.{verdict}
+use Rattle.tables.specs.Delivered.{head_cell, tail_cells, by_columns, leq_by, as_number, number_cmp, all_bytes, takes_number, takes_text, takes_field, takes_record, number_state, bytes_state, record_state, number_columns, number_order}
 
-pub record Preorder {X : Type 0} (le : X → X → Bool) : Type 0 where
-  pub total : (a b : X) → (le a b || le b a) ≡ true
-  pub transitive : (a b c : X) → le a b ≡ true → le b c ≡ true → le a c ≡ true
+-- Comparisons
+
+not_above : (o : Ordering) → is_le o ≡ not (is_gt o)
+not_above Less = refl
+not_above Equal = refl
+not_above Greater = refl
+
+verdict_at : (o p : Ordering) → o ≡ ordering_reverse p → cond (is_le o) (cond (is_le p) Equal Less) Greater ≡ o
+verdict_at o Less e = rw e
+verdict_at o Equal e = rw e
+verdict_at o Greater e = rw e
+
+either : (o p : Ordering) → o ≡ ordering_reverse p → (is_le o || is_le p) ≡ true
+either o Less e = rw e
+either o Equal e = rw e
+either o Greater e = rw e
+
+-- what the relation of a total order keeps, and the verdict that it says
+module _ {X : Type 0} {cmp : X → X → Ordering} (o : IsTotalOrder cmp) where
+  pub leq_total : (a b : X) → (leq_by cmp a b || leq_by cmp b a) ≡ true
+  leq_total a b = either (cmp a b) (cmp b a) (o.antisymm a b)
+
+  pub leq_transitive : (a b c : X) → leq_by cmp a b ≡ true → leq_by cmp b c ≡ true → leq_by cmp a c ≡ true
+  leq_transitive a b c h k =
+      let p = not_above (cmp a b) in
+      let q = not_above (cmp b c) in
+      not_above (cmp a c) ∙ ap not (upto o a b c (not-true _ (sym p ∙ h)) (not-true _ (sym q ∙ k)))
+
+pub verdict_is : {cmp : List Cell → List Cell → Ordering} → IsTotalOrder cmp → (ks : List Kind) (takes : ℕ → Cell → Bool) (a b : List Cell)
+    → verdict (record { kinds = ks; takes = takes; leq = leq_by cmp }) a b ≡ cmp a b
+unfolding verdict
+verdict_is {cmp} o ks takes a b = verdict_at (cmp a b) (cmp b a) (o.antisymm a b)
 
 -- null or a value
-pub sorted_preorder : {X : Type 0} {le : X → X → Bool} → Preorder le → (s : Sorting) → Preorder (sorted_leq le s)
-sorted_preorder {X} {le} pre s = record { total = total'; transitive = transitive' }
+pub sorted_total : {X : Type 0} {cmp : X → X → Ordering} → IsTotalOrder cmp → (s : Sorting) → IsTotalOrder (sorted_verdict cmp s)
+sorted_total {X} {cmp} o s = record { antisymm = back; trans = between; congr = alike }
   where
-    total' : (a b : Option X) → (sorted_leq le s a b || sorted_leq le s b a) ≡ true
-    total' None None = refl
-    total' None (Some y) = grind arith
-    total' (Some x) None = grind arith
-    total' (Some x) (Some y) = let t = pre.total x y in let u = pre.total y x in grind arith
+    back : (a b : Option X) → sorted_verdict cmp s a b ≡ ordering_reverse (sorted_verdict cmp s b a)
+    back None None = refl
+    back None (Some y) = grind arith
+    back (Some x) None = grind arith
+    back (Some x) (Some y) = let t = o.antisymm x y in let u = o.antisymm y x in grind arith
 
-    transitive' : (a b c : Option X) → sorted_leq le s a b ≡ true → sorted_leq le s b c ≡ true → sorted_leq le s a c ≡ true
-    transitive' None None c h k = k
-    transitive' None (Some y) None h k = refl
-    transitive' None (Some y) (Some z) h k = h
-    transitive' (Some x) None None h k = h
-    transitive' (Some x) None (Some z) h k = grind arith
-    transitive' (Some x) (Some y) None h k = k
-    transitive' (Some x) (Some y) (Some z) h k = let t = pre.transitive x y z in let u = pre.transitive z y x in grind arith
+    between : (a b c : Option X) → sorted_verdict cmp s a b ≡ Less → sorted_verdict cmp s b c ≡ Less → sorted_verdict cmp s a c ≡ Less
+    between None None c h k = k
+    between None (Some y) None h k = grind arith
+    between None (Some y) (Some z) h k = h
+    between (Some x) None None h k = h
+    between (Some x) None (Some z) h k = grind arith
+    between (Some x) (Some y) None h k = k
+    between (Some x) (Some y) (Some z) h k = let t = o.trans x y z in let u = o.trans z y x in grind arith
 
--- what is read off first
-pub read_preorder : {X Y : Type 0} {le : Y → Y → Bool} (f : X → Y) → Preorder le → Preorder (λ a b. le (f a) (f b))
-read_preorder f pre = record { total = λ a b. pre.total (f a) (f b); transitive = λ a b c. pre.transitive (f a) (f b) (f c) }
+    alike : (a b c : Option X) → sorted_verdict cmp s a b ≡ Equal → sorted_verdict cmp s a c ≡ sorted_verdict cmp s b c
+    alike None None c h = refl
+    alike None (Some y) c h = grind arith
+    alike (Some x) None c h = grind arith
+    alike (Some x) (Some y) None h = refl
+    alike (Some x) (Some y) (Some z) h =
+        let t = o.congr x y z in let u = alike_right o x y z in let v = alike_right o y x z in grind arith
 
-columns_total : (les : List (Cell → Cell → Bool)) → AllByRecursion (λ le. Preorder le) les → (a b : List Cell) → (by_columns les a b || by_columns les b a) ≡ true
-columns_total [] h a b = refl
-columns_total (le ∷ les) h a b =
-    let t = h.0.total (head_cell a) (head_cell b) in let ih = columns_total les h.1 (tail_cells a) (tail_cells b) in grind arith
+-- column by column
+pub columns_total : (cmps : List (Cell → Cell → Ordering)) → AllByRecursion (λ cmp. IsTotalOrder cmp) cmps → IsTotalOrder (by_columns cmps)
+columns_total [] h = record { antisymm = λ a b. refl; trans = λ a b c h k. h; congr = λ a b c h. refl }
+columns_total (cmp ∷ cmps) h = then_total (on_total head_cell h.0) (on_total tail_cells (columns_total cmps h.1))
 
-columns_transitive : (les : List (Cell → Cell → Bool)) → AllByRecursion (λ le. Preorder le) les → (a b c : List Cell) → by_columns les a b ≡ true → by_columns les b c ≡ true → by_columns les a c ≡ true
-columns_transitive [] h a b c x y = refl
-columns_transitive (le ∷ les) h a b c x y =
-    let t = h.0.transitive (head_cell a) (head_cell b) (head_cell c) in
-    let u = h.0.transitive (head_cell b) (head_cell c) (head_cell a) in
-    let v = h.0.transitive (head_cell c) (head_cell a) (head_cell b) in
-    let ih = columns_transitive les h.1 (tail_cells a) (tail_cells b) (tail_cells c) in grind arith
+pub number_total : (s : Sorting) → IsTotalOrder (number_cmp s)
+number_total s = on_total as_number (sorted_total int_cmp_total s)
 
-pub columns_preorder : (les : List (Cell → Cell → Bool)) → AllByRecursion (λ le. Preorder le) les → Preorder (by_columns les)
-columns_preorder les h = record { total = columns_total les h; transitive = columns_transitive les h }
+pub numbers_total : (ss : List Sorting) → IsTotalOrder (number_columns ss)
+numbers_total ss = columns_total (map number_cmp ss) (go ss)
+  where
+    go : (ts : List Sorting) → AllByRecursion (λ cmp. IsTotalOrder cmp) (map number_cmp ts)
+    go [] = tt
+    go (t ∷ ts) = (number_total t, go ts)
 
-pub number_preorder : (s : Sorting) → Preorder (number_leq s)
-number_preorder s = read_preorder as_number (sorted_preorder (record { total = λ a b. grind (arith, ints); transitive = λ a b c h k. grind (arith, ints) }) s)
-
-number_columns : (ss : List Sorting) → AllByRecursion (λ le. Preorder le) (map number_leq ss)
-number_columns [] = tt
-number_columns (s ∷ ss) = (number_preorder s, number_columns ss)
+-- The cells that are taken
 
 number_proper : (c : Cell) → takes_number c ≡ true → Proper numbers c
 number_proper null h = tt
@@ -105,11 +136,9 @@ pub bytes_state_laws : StateLaws (state_of bytes_state)
 bytes_state_laws = record { takes_null = refl; takes_proper = text_proper }
 
 pub number_order_laws : (ss : List Sorting) → OrderLaws (number_order ss)
-number_order_laws ss =
-    let pre = columns_preorder (map number_leq ss) (number_columns ss) in
-    record {
-      takes_null = λ j. refl;
-      takes_proper = λ j c h. rw (number_kinds ss j) (number_proper c h);
-      total = pre.total;
-      transitive = pre.transitive;
-    }
+number_order_laws ss = record {
+  takes_null = λ j. refl;
+  takes_proper = λ j c h. rw (number_kinds ss j) (number_proper c h);
+  total = leq_total (numbers_total ss);
+  transitive = leq_transitive (numbers_total ss);
+}

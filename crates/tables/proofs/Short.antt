@@ -1,70 +1,78 @@
--- Byte strings held by value: which are taken, and what the reading of one says.
-use Rattle.std.proofs.Common.{◌≡◌, ℕ, ◌%◌, ◌≤◌, Bool, true, false, cond, not, ◌&&◌, leb, List, [], ◌∷◌, length, take, Some, None, Ok, Err, Option, Result, sym, refl, ap, ◌∙◌, arith}
-use Rattle.std.specs.Option.{option_map}
-use Rattle.std.proofs.lemmas.List.{length-map, length-take}
+-- Cells that a table holds: the space that they need is never more than a usize says, and 32-bit offsets reach the end of their strings.
+use Rattle.std.proofs.Common.{◌≡◌, ℕ, ◌*◌, ◌^◌, ◌≤◌, true, not, List, [], ◌∷◌, map, length, get_or, take, Some, Option, Result, refl, ap, ap₂, ◌∙◌, arith, length-append}
+use Rattle.std.specs.List.{flat_map}
+use Rattle.std.proofs.lemmas.List.{length-map, length-take-le, take-map}
 use Rattle.std.proofs.lemmas.Bool.{lt-ltb}
-use Rattle.column.specs.Cells.{strings, text_cell}
-use Rattle.column.specs.Checks.{outcome, refuse}
-use Rattle.column.specs.Columns.{Column, octets, text_at, shown}
+use Rattle.column.specs.Cells.{Kind, numbers, strings, records, Cell, null}
+use Rattle.column.specs.Checks.{outcome, unless_refused, refuse, Settles}
 use Rattle.layout.specs.declared.OutputFault.{OutputFault}
 use Rattle.layout.specs.declared.OutputFault.TheVariants as output
-use Rattle.layout.specs.declared.short.ShortBytes.{ShortBytes}
-use Rattle.layout.specs.Layout.{Parts, fits}
-use Rattle.layout.specs.Written.{short_seen, short_cell, strings_laid, offsets_reach}
-use Rattle.layout.proofs.Offsets.{few_reach}
-use Rattle.tables.specs.Delivered.{all_bytes, takes_text}
-use Rattle.tables.specs.Texts.{long_text, text_seen}
-use Rattle.tables.specs.declared.TextFault.{TextFault}
-use Rattle.tables.specs.declared.TextFault.TheVariants as text
-use Rattle.tables.proofs.Declining.{passed, declined, some≢none}
-use Rattle.tables.proofs.Taking.{measured}
+use Rattle.layout.specs.declared.Space.{Space}
+use Rattle.layout.specs.Layout.{Parts, laid_out, string_content, number_content, record_content, fits, written}
+use Rattle.layout.specs.Written.{space_of, rows_laid, measured, reached, has_place}
+use Rattle.layout.proofs.Contents.{content_length, record_length}
+use Rattle.layout.proofs.Offsets.{offsets_length}
+use Rattle.layout.proofs.Overs.{joined_length}
+use Rattle.layout.proofs.Sources.{rows_of, rows_length, rows_front}
 
-octets_bytes : (bs : List ℕ) → all_bytes (octets bs) ≡ true
-octets_bytes [] = refl
-octets_bytes (b ∷ bs) = let e = lt-ltb (b % 256) 256 (omega arith) in let ih = octets_bytes bs in rw (e, ih)
+-- so few rows as a table has, of numbers, whatever else is held beside them
+pub numbers_measured : (shows : ℕ → Cell) (n : ℕ) → n ≤ 256 → measured (rows_laid numbers shows n) ≡ Some (space_of (rows_laid numbers shows n))
+numbers_measured shows n h =
+    let r = rows_length shows n in
+    let j = joined_length number_content 8 content_length (rows_of shows n) in
+    rw (lt-ltb (length (flat_map number_content (rows_of shows n))) (2 ^ 64) (omega arith))
 
--- a string of bytes is taken by its length
-octets_taken : (bs : List ℕ) → takes_text (text_cell (Some (octets bs))) ≡ leb (length bs) 32
-octets_taken bs = let l = length-map bs (λ b. b % 256) in rw (octets_bytes bs, l) (go (leb (length bs) 32))
-  where
-    go : (b : Bool) → (b && true) ≡ b
-    go true = refl
-    go false = refl
+-- The parts of a table of which each cell is short
 
--- a string that is read and held
-pub text_held : (c : Column) (r : ℕ) (bs : List ℕ) (x : ShortBytes) → Some bs ≡ text_at c r → Some (short_seen x) ≡ cond (leb (length bs) 32) (Some (octets bs)) None
-    → Ok (Some (short_seen x)) ≡ outcome (long_text c r) (option_map octets (text_at c r))
-text_held c r bs x e h =
-    go (leb (length bs) 32) (octets_taken bs) h
-    ∙ ap (λ o. outcome (refuse (not (takes_text (text_cell (option_map octets o)))) text.Long) (option_map octets o)) e
-  where
-    go : (b : Bool) → takes_text (text_cell (Some (octets bs))) ≡ b → Some (short_seen x) ≡ cond b (Some (octets bs)) None
-        → Ok (Some (short_seen x)) ≡ outcome (refuse (not (takes_text (text_cell (Some (octets bs))))) text.Long) (Some (octets bs))
-    go true t h = ap Ok h ∙ ap (λ b. outcome (refuse (not b) text.Long) (Some (octets bs))) (sym t)
-    go false t h = absurd (some≢none h)
+module _ {X : Type 0} (cell : X → Cell) (short : (x : X) → length (string_content (cell x)) ≤ 32) where
+  all_short : (xs : List X) → length (flat_map string_content (map cell xs)) ≤ 32 * length xs
+  all_short [] = omega arith
+  all_short (x ∷ xs) = let ih = all_short xs in let h = short x in simp length-append (omega arith)
 
--- What the reading of a string to be held answers
+  pub cells_reached : (k : Kind) (xs : List X) → length xs ≤ 256 → reached k (laid_out k (map cell xs)) ≡ true
+  cells_reached numbers xs h = refl
+  cells_reached strings xs h = let f = all_short xs in lt-ltb (length (flat_map string_content (map cell xs))) (2 ^ 32) (omega arith)
+  cells_reached records xs h = refl
 
-pub text_long : (c : Column) (r : ℕ) (f : TextFault) (x : Option (List ℕ)) → Err f ≡ outcome (long_text c r) x → takes_text (shown strings c r) ≡ false
-text_long c r f x e = go (takes_text (shown strings c r)) (declined (long_text c r) f x e)
-  where
-    go : (b : Bool) → refuse (not b) text.Long ≡ Some f → b ≡ false
-    go true h = absurd (some≢none (sym h))
-    go false h = refl
+  pub cells_measured : (k : Kind) (xs : List X) → length xs ≤ 256 → measured (laid_out k (map cell xs)) ≡ Some (space_of (laid_out k (map cell xs)))
+  cells_measured numbers xs h =
+      let l = length-map xs cell in
+      let j = joined_length number_content 8 content_length (map cell xs) in
+      rw (lt-ltb (length (flat_map number_content (map cell xs))) (2 ^ 64) (omega arith))
+  cells_measured strings xs h =
+      let l = length-map xs cell in
+      let f = all_short xs in
+      let o = offsets_length 0 (map cell xs) in
+      rw (lt-ltb (length (laid_out strings (map cell xs)).offsets) (2 ^ 64) (omega arith), lt-ltb (length (flat_map string_content (map cell xs))) (2 ^ 64) (omega arith))
+  cells_measured records xs h =
+      let l = length-map xs cell in
+      let j = joined_length record_content 25 record_length (map cell xs) in
+      rw (lt-ltb (length (flat_map record_content (map cell xs))) (2 ^ 64) (omega arith))
 
-pub text_short : (c : Column) (r : ℕ) (o : Option ShortBytes) → text_seen (Ok o) ≡ outcome (long_text c r) (option_map octets (text_at c r)) → takes_text (shown strings c r) ≡ true
-text_short c r o e = go (takes_text (shown strings c r)) (passed (long_text c r) _ _ e)
-  where
-    go : (b : Bool) → refuse (not b) text.Long ≡ None → b ≡ true
-    go true h = refl
-    go false h = absurd (some≢none h)
+  -- the first n, read by row
+  pub front_laid : (k : Kind) (xs : List X) (n : ℕ) → n ≤ length xs → rows_laid k (λ r. get_or (map cell xs) r null) n ≡ laid_out k (map cell (take n xs))
+  front_laid k xs n h =
+      let l = length-map xs cell in
+      ap (laid_out k) (rows_front (map cell xs) null n (omega arith) ∙ take-map cell n xs)
 
-pub text_read : (c : Column) (r : ℕ) (o : Option ShortBytes) → text_seen (Ok o) ≡ outcome (long_text c r) (option_map octets (text_at c r)) → short_cell o ≡ shown strings c r
-text_read c r o e = ap text_cell (measured (long_text c r) (option_map short_seen o) (option_map octets (text_at c r)) e)
+  pub front_measured : (k : Kind) (xs : List X) (n : ℕ) → n ≤ length xs → length xs ≤ 256 → measured (rows_laid k (λ r. get_or (map cell xs) r null) n) ≡ Some (space_of (laid_out k (map cell (take n xs))))
+  front_measured k xs n h l = let t = length-take-le n xs h in ap measured (front_laid k xs n h) ∙ cells_measured k (take n xs) (omega arith)
 
--- as many strings as a table holds are never too many for the offsets, so that an output declines them for want of room alone
-pub held_put : (xs : List (Option ShortBytes)) (n : ℕ) (before : Parts) (r : Result (Unit {0}) OutputFault) → length xs ≤ 256
-    → r ≡ outcome (refuse (not (offsets_reach (strings_laid (take n xs)) && fits (strings_laid (take n xs)) before)) output.Space) (tt {0}) → r ≡ outcome (refuse (not (fits (strings_laid (take n xs)) before)) output.Space) (tt {0})
-held_put xs n before r h e =
-    let l = length-take n xs in
-    e ∙ ap (λ b. outcome (refuse (not (b && fits (strings_laid (take n xs)) before)) output.Space) (tt {0})) (few_reach (take n xs) (omega arith))
+  pub front_place : (k : Kind) (xs : List X) (n : ℕ) (before : Parts) → n ≤ length xs → length xs ≤ 256 → has_place k (rows_laid k (λ r. get_or (map cell xs) r null) n) before ≡ fits (laid_out k (map cell (take n xs))) before
+  front_place k xs n before h l = let t = length-take-le n xs h in rw (front_laid k xs n h, cells_reached k (take n xs) (omega arith))
+
+  -- what an output says of them, which the code reads through another list that is the same
+  pub put_answer : (k : Kind) (xs ys : List X) (n : ℕ) (before after : Parts) (r : Result (Unit {0}) OutputFault) → ys ≡ xs → n ≤ length xs → length xs ≤ 256
+      → Settles (refuse (not (has_place k (rows_laid k (λ r. get_or (map cell ys) r null) n) before)) output.Space) (tt {0}) (written (rows_laid k (λ r. get_or (map cell ys) r null) n) before) before r after
+      → Settles (refuse (not (fits (laid_out k (map cell (take n xs))) before)) output.Space) (tt {0}) (written (laid_out k (map cell (take n xs))) before) before r after
+  put_answer k xs ys n before after r e h l s =
+      let p = front_place k xs n before h l in
+      record {
+        answered = s.answered ∙ ap (λ zs. outcome (refuse (not (has_place k (rows_laid k (λ r. get_or (map cell zs) r null) n) before)) output.Space) (tt {0})) e ∙ ap (λ b. outcome (refuse (not b) output.Space) (tt {0})) p;
+        left = s.left
+            ∙ ap (λ zs. unless_refused (refuse (not (has_place k (rows_laid k (λ r. get_or (map cell zs) r null) n) before)) output.Space) (written (rows_laid k (λ r. get_or (map cell zs) r null) n) before) before) e
+            ∙ ap₂ (λ b z. unless_refused (refuse (not b) output.Space) (written z before) before) p (front_laid k xs n h);
+      }
+
+  pub space_answer : (k : Kind) (xs ys : List X) (n : ℕ) (o : Option Space) → ys ≡ xs → n ≤ length xs → length xs ≤ 256 → o ≡ measured (rows_laid k (λ r. get_or (map cell ys) r null) n) → o ≡ Some (space_of (laid_out k (map cell (take n xs))))
+  space_answer k xs ys n o e h l m = m ∙ ap (λ zs. measured (rows_laid k (λ r. get_or (map cell zs) r null) n)) e ∙ front_measured k xs n h l

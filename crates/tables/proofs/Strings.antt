@@ -1,46 +1,34 @@
--- Byte strings: their relation is total and transitive and agrees with the comparison of slices, and the text order keeps its laws.
-use Rattle.std.proofs.Common.{◌≡◌, ℕ, zero, suc, true, ◌||◌, List, [], ◌∷◌, get_or, refl, arith}
-use Rattle.std.specs.Cmp.Lexicographic.{slice_cmp}
-use Rattle.std.specs.Ordering.{nat_cmp}
-use Rattle.std.proofs.lemmas.Bool.{false≢true}
-use Rattle.std.proofs.lemmas.Bool.Decides.{nat_tests}
+-- Byte strings are ordered totally, and the text order keeps its laws.
+use Rattle.std.proofs.Common.{◌≡◌, ℕ, zero, suc, ◌%◌, Bool, true, false, ◌&&◌, leb, List, [], ◌∷◌, length, get_or, refl, arith}
+use Rattle.std.specs.Cmp.{IsTotalOrder}
+use Rattle.std.specs.Ordering.{on}
+use Rattle.std.proofs.lemmas.Bool.{false≢true, and_from, lt-ltb}
+use Rattle.std.proofs.lemmas.List.{length-map}
+use Rattle.std.proofs.lemmas.Cmp.{nat_list_cmp_total, on_total}
 use Rattle.column.specs.Cells.{numbers, strings, Cell, null, number, text, fields, Proper}
+use Rattle.column.specs.Columns.{octets}
 use Rattle.tables.specs.declared.Sorting.{Sorting}
 use Rattle.tables.specs.Meaning.{OrderLaws}
-use Rattle.tables.specs.Delivered.{bytes_leq, as_text, text_leq, takes_one_text, text_order}
-use Rattle.tables.proofs.Ordering.{text_proper, Preorder, sorted_preorder, read_preorder, columns_preorder}
-use Rattle.tables.proofs.Ruled.{ruled}
+use Rattle.tables.specs.Delivered.{head_cell, as_text, text_cmp, all_bytes, takes_text, takes_one_text, text_order}
+use Rattle.tables.proofs.Ordering.{text_proper, leq_total, leq_transitive, sorted_total}
 
-bytes_total : (xs ys : List ℕ) → (bytes_leq xs ys || bytes_leq ys xs) ≡ true
-bytes_total [] ys = refl
-bytes_total (x ∷ xs) [] = refl
-bytes_total (x ∷ xs) (y ∷ ys) = let ih = bytes_total xs ys in grind (arith, nat_tests)
+-- a string of bytes is taken by its length
+pub octets_taken : (bs : List ℕ) → takes_text (text (octets bs)) ≡ leb (length bs) 32
+octets_taken bs = rw (bytes bs, length-map bs (λ b. b % 256)) (alone (leb (length bs) 32))
+  where
+    bytes : (ds : List ℕ) → all_bytes (octets ds) ≡ true
+    bytes [] = refl
+    bytes (d ∷ ds) = and_from _ _ (lt-ltb (d % 256) 256 (omega arith)) (bytes ds)
 
-bytes_transitive : (xs ys zs : List ℕ) → bytes_leq xs ys ≡ true → bytes_leq ys zs ≡ true → bytes_leq xs zs ≡ true
-bytes_transitive [] ys zs h k = refl
-bytes_transitive (x ∷ xs) [] zs h k = absurd (false≢true h)
-bytes_transitive (x ∷ xs) (y ∷ ys) [] h k = absurd (false≢true k)
-bytes_transitive (x ∷ xs) (y ∷ ys) (z ∷ zs) h k = let ih = bytes_transitive xs ys zs in grind (arith, nat_tests)
+    alone : (t : Bool) → (t && true) ≡ t
+    alone true = refl
+    alone false = refl
 
--- a relation of byte strings says what the comparison of slices says
-pub bytes_ruled : (xs ys : List ℕ) → ruled bytes_leq xs ys ≡ slice_cmp nat_cmp xs ys
-bytes_ruled [] [] = refl
-bytes_ruled [] (y ∷ ys) = refl
-bytes_ruled (x ∷ xs) [] = refl
-bytes_ruled (x ∷ xs) (y ∷ ys) = let ih = bytes_ruled xs ys in grind (arith, nat_tests)
-
-text_preorder : (s : Sorting) → Preorder (text_leq s)
-text_preorder s = read_preorder as_text (sorted_preorder (record { total = bytes_total; transitive = bytes_transitive }) s)
+pub texts_total : (s : Sorting) → IsTotalOrder (on head_cell (text_cmp s))
+texts_total s = on_total head_cell (on_total as_text (sorted_total nat_list_cmp_total s))
 
 pub text_order_laws : (s : Sorting) → OrderLaws (text_order s)
-text_order_laws s =
-    let pre = columns_preorder (text_leq s ∷ []) (text_preorder s, tt) in
-    record {
-      takes_null = null_taken;
-      takes_proper = proper;
-      total = pre.total;
-      transitive = pre.transitive;
-    }
+text_order_laws s = record { takes_null = null_taken; takes_proper = proper; total = leq_total (texts_total s); transitive = leq_transitive (texts_total s) }
   where
     null_taken : (j : ℕ) → takes_one_text j null ≡ true
     null_taken zero = refl

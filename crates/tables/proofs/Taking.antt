@@ -1,25 +1,27 @@
 -- What writing out the first keys declines, column by column, and what it writes to each of three outputs.
-use Rattle.std.proofs.Common.{◌≡◌, ℕ, suc, ◌<◌, ◌≤◌, Bool, true, false, cond, ◌&&◌, ◌||◌, leb, List, [], ◌∷◌, length, get_or, take, Some, None, Ok, Err, Option, sym, refl, ap, ◌∙◌, arith}
-use Rattle.std.proofs.lemmas.Bool.{not-false, le-leb, lt-leb}
+use Rattle.std.proofs.Common.{◌≡◌, ℕ, suc, ◌<◌, ◌≤◌, Bool, true, false, cond, not, ◌&&◌, ◌||◌, leb, List, [], ◌∷◌, length, get_or, take, Some, None, Ok, Err, Option, sym, refl, ◌∙◌, arith}
+use Rattle.std.proofs.lemmas.Bool.{not-false, false≢true, le-leb, lt-leb}
 use Rattle.std.proofs.lemmas.Bool.Decides.{nat_tests}
 use Rattle.std.specs.Option.{option_map}
-use Rattle.column.specs.Checks.{outcome, unless_refused}
+use Rattle.column.specs.Checks.{outcome, unless_refused, refuse}
 use Rattle.column.specs.Cells.{Kind, numbers, Cell}
 use Rattle.layout.specs.Layout.{Parts, laid_out, fits, fits_all, written, written_all}
-use Rattle.layout.specs.Written.{space_of, roomy}
-use Rattle.layout.specs.declared.Space.{Space}
 use Rattle.tables.specs.declared.TableFault.{TableFault}
 use Rattle.tables.specs.declared.OrderFault.{OrderFault}
 use Rattle.tables.specs.declared.OrderFault.TheVariants as order
 use Rattle.tables.specs.Meaning.{Settings, column_cells}
 use Rattle.tables.specs.Refusals.{dropping, key_laid, columns_laid, keys_laid, measuring_key, writing_key, taking_keys}
-use Rattle.tables.proofs.Declining.{declined, first_passed, refuse_passed, passed_new}
+use Rattle.tables.proofs.Declining.{passed, declined, first_passed, first_alone, refuse_passed, refused_test, passed_new}
 use Rattle.tables.proofs.Passing.{writing_key_fine}
 
 -- the answer of a call that passes, and a refusal of one that does
 pub measured : {F X : Type 0} (o : Option F) (x y : X) → Ok x ≡ outcome o y → x ≡ y
 measured None x y e = cc
 measured (Some f) x y e = cc
+
+not-true : (b : Bool) → not b ≡ true → b ≡ false
+not-true true e = absurd (false≢true e)
+not-true false e = refl
 
 pub never_declined : {F X : Type 0} (o : Option F) (f : F) (y : X) → o ≡ None → Err f ≡ outcome o y → ⊥
 never_declined o f y h e = let s = declined o f y e in let z : ◌≡◌ {A = ℕ} 0 1 = cc in omega arith
@@ -63,12 +65,17 @@ module _ (s : Settings) (es : List (List Cell)) (n j : ℕ) where
   unfolding measuring_key
   measuring_fine h e = rw (lt-leb (length s.kinds) j h, e)
 
-  pub measuring_exit : (f : OrderFault) → j < length s.kinds → dropping (length es) n ≡ None → Err f ≡ outcome (measuring_key s es j n) (space_of (key_laid s es j n)) → ⊥
-  measuring_exit f h d e = never_declined (measuring_key s es j n) f _ (measuring_fine h d) e
+  -- what a column's own answer says of its room
+  pub writing_is : (o : Parts) → j < length s.kinds → dropping (length es) n ≡ None → writing_key s es j n o ≡ refuse (not (room_at s.kinds es n j o)) order.Space
+  unfolding writing_key
+  writing_is o h d = rw (measuring_fine h d, lt-leb (length s.kinds) j h) (first_alone (refuse (not (fits (key_laid s es j n) o)) order.Space))
 
-  -- what a measured column's space says
-  pub room_is : (sp : Space) (o : Parts) (t : Bool) → j < length s.kinds → Ok sp ≡ outcome (measuring_key s es j n) (space_of (key_laid s es j n)) → t ≡ roomy sp o → room_at s.kinds es n j o ≡ t
-  room_is sp o t h e r = rw (lt-leb (length s.kinds) j h) (sym (r ∙ ap (λ x. roomy x o) (measured _ _ _ e)))
+  pub room_found : (o : Parts) → j < length s.kinds → dropping (length es) n ≡ None → Ok (tt {0}) ≡ outcome (writing_key s es j n o) (tt {0}) → room_at s.kinds es n j o ≡ true
+  room_found o h d e = not-false _ (refuse_passed _ _ (sym (writing_is o h d) ∙ passed _ _ _ e))
+
+  pub room_lacking : (o : Parts) (f : OrderFault) → j < length s.kinds → dropping (length es) n ≡ None → Err f ≡ outcome (writing_key s es j n o) (tt {0})
+      → (room_at s.kinds es n j o ≡ false) × (order.Space ≡ f)
+  room_lacking o f h d e = let t = refused_test _ _ _ (sym (writing_is o h d) ∙ declined _ _ _ e) in (not-true _ t.0, t.1)
 
   pub room_none : (o : Parts) → length s.kinds ≤ j → room_at s.kinds es n j o ≡ true
   room_none o h = rw (le-leb (length s.kinds) j h)
@@ -118,8 +125,14 @@ module _ (s : Settings) (es : List (List Cell)) (n : ℕ) (a b c : Parts) where
   pub short_second : dropping (length es) n ≡ None → room_at s.kinds es n 1 b ≡ false → taking_keys s es n (a ∷ b ∷ c ∷ []) ≡ Some order.Space
   short_second d h = let f = fits_three s.kinds es n a b c in taking_short s es n _ d (grind (arith, nat_tests))
 
-  pub short_third : dropping (length es) n ≡ None → room_at s.kinds es n 2 c ≡ false → taking_keys s es n (a ∷ b ∷ c ∷ []) ≡ Some order.Space
-  short_third d h = let f = fits_three s.kinds es n a b c in taking_short s es n _ d (grind (arith, nat_tests))
+  -- where the first two columns have room, the third decides
+  pub last_fits : dropping (length es) n ≡ None → length s.kinds ≤ 3 → room_at s.kinds es n 0 a ≡ true → room_at s.kinds es n 1 b ≡ true
+      → taking_keys s es n (a ∷ b ∷ c ∷ []) ≡ refuse (not (room_at s.kinds es n 2 c)) order.Space
+  unfolding taking_keys
+  last_fits d l x y =
+      let f = fits_three s.kinds es n a b c in
+      let m = le-leb (length s.kinds) 3 l in
+      rw (d, f, m, x, y) (first_alone (refuse (not (room_at s.kinds es n 2 c)) order.Space))
 
   pub all_fit : Taken s es n a b c → taking_keys s es n (a ∷ b ∷ c ∷ []) ≡ None
   all_fit t =

@@ -1,6 +1,9 @@
 pub mod Meaning
+pub mod Reading
 pub mod Numbered
 pub mod Refusals
 pub mod Missing
 pub mod Delivered
-pub mod Texts
+pub mod Said
+pub mod Leading
+pub mod Shorts

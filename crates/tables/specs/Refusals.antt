@@ -7,8 +7,10 @@
 --   cols_fit              as many columns as are read, and 1 to 3
 --   past_column, untaken  a row is past one of the columns; a row has a cell that is not taken
 --   no_column             an order reads no column of this number
+--   asking_key            the checks of asking for the cell that a group holds in a named key column
 --   named_unread, named_refused        the same for one named column of an order
 --   rows_unfit            the checks of the kinds of all order columns, and of some rows
+--   rows_refused          the same, and of the cells there
 --   key_unfit, key_refused             the checks of all order columns at some rows, and of the cells there
 --   some_column, some_of  some column, or some member of a list, has a property
 --   key_at                the key of a row: its cell in each order column
@@ -75,6 +77,9 @@ other_kind ks j c = not (same_kind c.kind (slice_index_or ks j c.kind))
 abbrev pub no_column : List Kind → ℕ → Option OrderFault
 no_column ks j = refuse (nat_le (length ks) j) order.Cols
 
+unfoldable pub asking_key : List Kind → ℕ → ℕ → ℕ → Option OrderFault
+asking_key ks j held g = first_of (no_column ks j ∷ refuse (nat_le held g) order.Group ∷ [])
+
 unfoldable pub named_unread : List Kind → ℕ → Column → Option OrderFault
 named_unread ks j c = first_of (no_column ks j ∷ refuse (other_kind ks j c) order.Kind ∷ [])
 
@@ -118,6 +123,10 @@ key_unfit ks out cs n rs =
 
 unfoldable pub key_refused : Settings → Bool → List Column → ℕ → List ℕ → Option OrderFault
 key_refused s out cs n rs = first_of (key_unfit s.kinds out cs n rs ∷ refuse (some_of (untaken s cs) rs) order.Long ∷ [])
+
+-- the checks of the kinds, of some rows, and of the cells there, where as many columns are given as are read
+unfoldable pub rows_refused : Settings → List Column → List ℕ → Option OrderFault
+rows_refused s cs rs = first_of (rows_unfit s.kinds cs rs ∷ refuse (some_of (untaken s cs) rs) order.Long ∷ [])
 
 abbrev pub key_at : List Column → ℕ → List Cell
 key_at cs r = map (λ c. cell_at c r) cs

@@ -1,9 +1,9 @@
-// A lower layer's refusal inside a value state's and a row order's: by a rule of the project each layer has an enum of its own, so each has its own From.
+//! A lower layer's refusal inside a value state's and a row order's.
 ghost use Rattle.std.specs.Prelude.{◌≡◌};
 ghost use Rattle.tables.specs.declared.OrderFault.TheVariants as order;
 ghost use Rattle.tables.specs.declared.StateFault.TheVariants as state;
 
-use crate::{OrderFault, StateFault, TableFault, TextFault};
+use crate::{OrderFault, StateFault, TableFault};
 use layout::OutputFault;
 
 impl From<TableFault> for StateFault {
@@ -38,26 +38,6 @@ impl From<OutputFault> for OrderFault {
     fn from(fault: OutputFault) -> OrderFault {
         match fault {
             OutputFault::Space => OrderFault::Space,
-        }
-    }
-}
-
-impl From<TextFault> for StateFault {
-    ghost from_gives = { λ e r. r ≡ state.Long };
-
-    fn from(fault: TextFault) -> StateFault {
-        match fault {
-            TextFault::Long => StateFault::Long,
-        }
-    }
-}
-
-impl From<TextFault> for OrderFault {
-    ghost from_gives = { λ e r. r ≡ order.Long };
-
-    fn from(fault: TextFault) -> OrderFault {
-        match fault {
-            TextFault::Long => OrderFault::Long,
         }
     }
 }

@@ -7,6 +7,7 @@ use std::cmp::Ordering;
 
 impl Sorting {
     // How one value that may be missing stands to another.
+    #[inline(always)]
     pub fn compare<T: Ord + Copy>(self, a: Option<T>, b: Option<T>) -> Ordering
         ensures { result ≡ sorted_verdict T.cmp self a b }
     {

@@ -1,50 +1,52 @@
-// The space that the first entries of a table need where they are written out.
-ghost use Rattle.std.specs.Prelude.{◌≡◌, ◌+◌, ◌*◌, ◌/◌, ◌≤◌, length, take};
-ghost use Rattle.column.specs.Checks.{outcome};
-ghost use Rattle.layout.specs.Written.{records_laid, strings_laid, space_of};
+//! Tables of cells, measured and written out.
+ghost use Rattle.std.specs.Prelude.{◌≡◌, ◌≤◌, map, length, take, not, slice_index_or};
+ghost use Rattle.column.specs.Cells.{null};
+ghost use Rattle.column.specs.Checks.{outcome, refuse, Settles};
+ghost use Rattle.column.specs.Seen.{kind_seen};
+ghost use Rattle.layout.specs.declared.OutputFault.TheVariants as output;
+ghost use Rattle.layout.specs.Layout.{laid_out, fits, written};
+ghost use Rattle.layout.specs.Written.{parts_seen, space_of};
 ghost use Rattle.tables.specs.Refusals.{dropping};
 
 use crate::checks::check_drop;
-use crate::{Entries, TableFault};
-use layout::{ShortBytes, Space};
+use crate::{Entries, HeldCell, TableFault};
+use column::{CellView, Kind};
+use layout::{CellSource, Output, OutputFault, Space};
 
-impl<T: Copy> Entries<T> {
-    // The space that so many bytes for each of the first `n` entries need: FEWER.
-    fn wide_space(&self, n: usize, bytes: usize) -> Result<Space, TableFault>
-        requires { bytes ≤ 25 }
-        ensures { result ≡ outcome (dropping (length self.now) n) (record { validity = (n + 7) / 8; offsets = 0; «data» = bytes * n }) }
-    {
-        check_drop(self.len(), n)?;
-        Ok(Space {
-            validity: n.div_ceil(8),
-            offsets: 0,
-            data: bytes * n,
-        })
-    }
+// The cells of some entries; null past the last.
+#[derive(Clone, Copy)]
+struct Shown<'a, T> {
+    entries: &'a [T],
+}
 
-    // The space that a number for each of the first `n` entries needs: FEWER.
-    pub fn number_space(&self, n: usize) -> Result<Space, TableFault>
-        ensures { result ≡ outcome (dropping (length self.now) n) (record { validity = (n + 7) / 8; offsets = 0; «data» = 8 * n }) }
-    {
-        self.wide_space(n, 8)
+impl<'a, T: HeldCell> CellSource for Shown<'a, T> {
+    ghost shows = { λ s r. slice_index_or (map T.shows s.entries.now) r null };
+
+    #[inline]
+    fn cell_view(&self, row: usize) -> CellView<'_> {
+        match self.entries.get(row) {
+            Some(cell) => cell.view(),
+            None => CellView::Null,
+        }
     }
 }
 
-impl Entries<Option<[Option<i64>; 3]>> {
-    // The space that the first `n` records need: FEWER.
-    pub fn record_space(&self, n: usize) -> Result<Space, TableFault>
-        ensures { result ≡ outcome (dropping (length self.now) n) (space_of (records_laid (take n self.now))) }
+impl<T: HeldCell> Entries<T> {
+    /// The space that the first `n` entries need as a column of a kind: FEWER.
+    pub fn space(&self, kind: Kind, n: usize) -> Result<Space, TableFault>
+        ensures { result ≡ outcome (dropping (length self.now) n) (space_of (laid_out (kind_seen kind) (map T.shows (take n self.now)))) }
     {
-        self.wide_space(n, 25)
+        let entries = self.as_slice();
+        check_drop(entries.len(), n)?;
+        Ok(Space::of_cells(kind, &Shown { entries }, n).unwrap())
     }
-}
 
-impl Entries<Option<ShortBytes>> {
-    // The space that the first `n` byte strings need: FEWER.
-    pub fn string_space(&self, n: usize) -> Result<Space, TableFault>
-        ensures { result ≡ outcome (dropping (length self.now) n) (space_of (strings_laid (take n self.now))) }
+    /// Writes the first `n` entries, all of which are held, as a column of a kind: SPACE.
+    pub fn put(&self, kind: Kind, n: usize, out: &mut Output) -> Result<(), OutputFault>
+        ensures { let laid = laid_out (kind_seen kind) (map T.shows (take n self.now)) in
+            n ≤ length self.now → Settles (refuse (not (fits laid (parts_seen out.old))) output.Space) tt (written laid (parts_seen out.old)) (parts_seen out.old) result (parts_seen out.new) }
     {
-        check_drop(self.len(), n)?;
-        Ok(Space::of_strings(&self.as_slice()[..n]))
+        let entries = self.as_slice();
+        out.put_cells(kind, &Shown { entries }, n)
     }
 }

@@ -1,61 +1,57 @@
--- What is held, read off a slot and set in it.
-use Rattle.std.proofs.Common.{◌≡◌, ℕ, Bool, true, false, cond, List, [], ◌∷◌, get_or, set, Some, None, Option, sym, refl, ap, ap₂, ◌∙◌, subst}
+-- What is held, read off an accumulator and set in it.
+use Rattle.std.proofs.Common.{◌≡◌, Bool, true, false, cond, not, ◌&&◌, [], ◌∷◌, get_or, set, Less, Equal, Greater, Some, None, Option, sym, refl, ap, ap₂, ◌∙◌, subst}
 use Rattle.std.specs.Option.{option_map}
+use Rattle.std.specs.Ordering.{is_lt, is_le, is_gt}
+use Rattle.std.specs.declared.cmp.Ordering.{Ordering}
 use Rattle.std.proofs.lemmas.List.{map-set}
-use Rattle.column.specs.Cells.{Cell, Kind, null}
-use Rattle.column.specs.Columns.{Flags, cell_at}
-use Rattle.tables.specs.Refusals.{key_at}
-use Rattle.book.specs.Winners.{Row}
-use Rattle.book.specs.Batches.{Given, order_columns, row_at}
-use Rattle.ungrouped.specs.declared.origin.Origin.{Origin}
-use Rattle.ungrouped.specs.Rows.{Alone}
-use Rattle.ungrouped.specs.Held.{Kept, origin_of, gives_way, stored}
-use Rattle.ungrouped.specs.Walk.{Slot, entry_row, read_row, put_row, put_found, found}
-use Rattle.ungrouped.specs.Accumulators.{Shows}
+use Rattle.column.specs.Cells.{null}
+use Rattle.column.specs.Columns.{Flags}
+use Rattle.tables.specs.Meaning.{StateLaws, OrderLaws, state_of, first_cells}
+use Rattle.tables.specs.declared.table.GroupTable.{Ghosts}
+use Rattle.book.specs.Winners.{Row, Making, Lawful, beats}
+use Rattle.keeping.specs.Keepers.{kept_row, Ranks, Same, Puts}
+use Rattle.ungrouped.specs.declared.single.Single.{Single}
+use Rattle.ungrouped.specs.Held.{Kept, origin_of, outdoes, gives_way, stored}
+use Rattle.ungrouped.specs.Accumulators.{alone, Stands}
 
--- what a slot shows is what is held
-pub read_is : (ks : List Kind) (s : Slot) (held : Option Kept) → Shows ks s held → read_row s ≡ held
-read_is ks s None h = ap (option_map (λ o. record { row = entry_row s; came_by = o })) h.came_by
-read_is ks s (Some k) h =
-    ap (option_map (λ o. record { row = entry_row s; came_by = o })) h.came_by
-    ∙ ap₂ (λ v key. Some (record { row = record { value = get_or v 0 null; key = get_or key 0 [] }; came_by = k.came_by })) h.value h.key
+-- An answer of a comparison tells whether a row outdoes another
 
-module _ (a : Alone) (marks : Option Flags) (g : Given) where
-  pub row_put : (s : Slot) (r : ℕ) (came_by : Option Origin) (cells keys : List (List Cell)) → gives_way a marks (row_at g r) (read_row s) ≡ true
-      → came_by ≡ Some (origin_of marks) → cells ≡ set s.cells 0 (cell_at g.value r ∷ []) → keys ≡ set s.keys 0 (key_at (order_columns g) r)
-      → ◌≡◌ {A = Slot} (record { came_by = came_by; cells = cells; keys = keys }) (put_row a marks g s r)
-  unfolding put_row row_at
-  row_put s r came_by cells keys w p q k = rw (p, q, k, w)
+not_greater : (o : Ordering) → is_le o ≡ not (is_gt o)
+not_greater Less = refl
+not_greater Equal = refl
+not_greater Greater = refl
 
-  pub row_left : (s : Slot) (r : ℕ) → gives_way a marks (row_at g r) (read_row s) ≡ false → s ≡ put_row a marks g s r
-  unfolding put_row
-  row_left s r w = rw w
+pub outdone_tie : (m : Making) (ties : Bool) (new old : Row) (o : Ordering) → Ranks m new old o → ties && not m.first ≡ true → is_le o ≡ outdoes m ties new old
+unfolding outdoes
+outdone_tie m ties new old o h e = not_greater o ∙ ap not h.greater ∙ ap (λ b. cond b (not (beats m old new)) (beats m new old)) (sym e)
 
-  row_shows : (ks : List Kind) (s : Slot) (held : Option Kept) (r : ℕ) → Shows ks s held → Shows ks (put_row a marks g s r) (stored a marks held (Some (row_at g r)))
-  unfolding put_row
-  row_shows ks s held r h =
-      subst (λ w. Shows ks (cond (gives_way a marks y w) new s) (cond (gives_way a marks y held) (Some now) held)) (sym (read_is ks s held h)) (go (gives_way a marks y held))
-    where
-      y : Row
-      y = row_at g r
+pub outdone_beaten : (m : Making) (ties : Bool) (new old : Row) (o : Ordering) → Ranks m new old o → ties && not m.first ≡ false → is_lt o ≡ outdoes m ties new old
+unfolding outdoes
+outdone_beaten m ties new old o h e = h.less ∙ ap (λ b. cond b (not (beats m old new)) (beats m new old)) (sym e)
 
-      now : Kept
-      now = record { row = y; came_by = origin_of marks }
+module _ {S O F G : Type 0} {s : Ghosts S F} {o : Ghosts O G} where
+  pub lawful : (a : Single S O F G s o) → ((x : S) → StateLaws (state_of (s.settings x))) → ((x : O) → OrderLaws (o.settings x)) → Lawful (alone a).making
+  lawful a state_laws order_laws = record { of_state = state_laws a.keeper.state; of_order = order_laws a.keeper.order }
 
-      new : Slot
-      new = record { came_by = Some (origin_of marks); cells = set s.cells 0 (y.value ∷ []); keys = set s.keys 0 y.key }
+  -- what an accumulator shows is what it holds
+  abbrev pub read : Single S O F G s o → Option Kept
+  read a = option_map (λ x. record { row = kept_row a.keeper 0; came_by = x }) a.held
 
-      replaced : Shows ks new (Some now)
-      replaced = record {
-        came_by = refl;
-        value = map-set (λ e. get_or e 0 null) s.cells 0 (y.value ∷ []) ∙ ap (λ cs. set cs 0 y.value) h.value;
-        key = ap (λ es. set es 0 y.key) h.key;
-      }
+  pub read_is : (a : Single S O F G s o) (held : Option Kept) → Stands a held → read a ≡ held
+  read_is a None h = ap (option_map (λ x. record { row = kept_row a.keeper 0; came_by = x })) h.came_by
+  read_is a (Some k) h =
+      ap (option_map (λ x. record { row = kept_row a.keeper 0; came_by = x })) h.came_by
+      ∙ ap₂ (λ v key. Some (record { row = record { value = get_or v 0 null; key = get_or key 0 [] }; came_by = k.came_by })) h.value h.key
 
-      go : (b : Bool) → Shows ks (cond b new s) (cond b (Some now) held)
-      go true = replaced
-      go false = h
+  -- a row that is left, and one that takes the place of what is held
+  pub leaves : (a : Single S O F G s o) (marks : Option Flags) (y : Row) (held : Option Kept) → Stands a held → gives_way (alone a) marks y held ≡ false → Stands a (stored (alone a) marks held (Some y))
+  leaves a marks y held h e = subst (λ b. Stands a (cond b (Some (record { row = y; came_by = origin_of marks })) held)) (sym e) h
 
-  pub found_shows : (ks : List Kind) (s : Slot) (held : Option Kept) (o : Option ℕ) → Shows ks s held → Shows ks (put_found a marks g s o) (stored a marks held (found g o))
-  found_shows ks s held None h = h
-  found_shows ks s held (Some r) h = row_shows ks s held r h
+  pub replaces_so : (a a' : Single S O F G s o) (marks : Option Flags) (y : Row) (held : Option Kept) → Stands a held → gives_way (alone a) marks y held ≡ true
+      → Same a.keeper a'.keeper → Puts a.keeper 0 y a'.keeper → a'.held ≡ Some (origin_of marks) → Stands a' (stored (alone a) marks held (Some y))
+  replaces_so a a' marks y held h e same puts came =
+      subst (λ b. Stands a' (cond b (Some (record { row = y; came_by = origin_of marks })) held)) (sym e) (record {
+        came_by = came;
+        value = ap (λ es. first_cells es) puts.value ∙ map-set (λ x. get_or x 0 null) (s.entries a.keeper.state) 0 (y.value ∷ []) ∙ ap (λ cs. set cs 0 y.value) h.value;
+        key = puts.key ∙ ap (λ es. set es 0 y.key) h.key;
+      })

@@ -1,11 +1,11 @@
 pub mod Rounding
 pub mod Picking
-pub mod Outdoing
+pub mod Topping
+pub mod Leading
+pub mod Numbering
 pub mod Walking
 pub mod Holding
 pub mod Batching
-pub mod Unset
-pub mod Topping
-pub mod Leading
-pub mod Reached
 pub mod Showing
+pub mod Reached
+pub mod Wide

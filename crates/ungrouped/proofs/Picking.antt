@@ -7,8 +7,12 @@ use Rattle.book.proofs.Winning.{challenge, winner_run, winner_append}
 use Rattle.book.proofs.ByGroup.{stored, stored_winner}
 use Rattle.ungrouped.specs.Rows.{Alone, arrives, latest, picked}
 use Rattle.ungrouped.specs.Held.{outdoes}
-use Rattle.ungrouped.specs.Walk.{prefers}
+use Rattle.ungrouped.specs.Found.{outermost_top}
 use Rattle.ungrouped.proofs.Rounding.{latest_push, latest_top}
+
+-- a row takes the place of an earlier one of its batch: of rows that are said to arrive in order any for LAST and none for FIRST, else one that outdoes it, where ties count
+abbrev pub prefers : Alone → Option Flags → Row → Row → Bool
+prefers a marks new old = cond (arrives a marks) (not a.making.first) (outdoes a.making true new old)
 
 -- the row that is put up after one row more
 abbrev pub or_row : Alone → Option Flags → Option Row → Row → Option Row
@@ -88,3 +92,12 @@ picked_push a laws marks xs y = go (arrives a marks) a.making.first ∙ so (oute
     go true false = latest_push xs y ∙ last (latest xs)
     go false true = winner_append m laws xs (y ∷ []) ∙ beaten (winner m xs)
     go false false = latest_top_push m laws xs y ∙ unless (latest (top_rows m xs))
+
+-- the outermost top row of a list that grows
+pub top_none : (m : Making) → outermost_top m [] ≡ None
+unfolding picked
+top_none m = picked_none (record { making = m; in_order = false }) None
+
+pub top_push : (m : Making) (laws : Lawful m) (xs : List Row) (y : Row) → outermost_top m (xs ++ y ∷ []) ≡ or_row (record { making = m; in_order = false }) None (outermost_top m xs) y
+unfolding picked
+top_push m laws xs y = picked_push (record { making = m; in_order = false }) laws None xs y

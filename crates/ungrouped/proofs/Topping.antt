@@ -10,9 +10,8 @@ use Rattle.book.proofs.Winning.{beats_not_self, beats_back}
 use Rattle.book.proofs.ByGroup.{beats_low}
 use Rattle.ungrouped.specs.Rows.{Alone, arrives, picked}
 use Rattle.ungrouped.specs.Held.{outdoes}
-use Rattle.ungrouped.specs.Walk.{prefers}
 use Rattle.ungrouped.specs.Runs.{InTurn, InOrder, Top, Best}
-use Rattle.ungrouped.proofs.Picking.{or_row, picked_none, picked_push}
+use Rattle.ungrouped.proofs.Picking.{prefers, or_row, picked_none, picked_push}
 
 -- two rows of a list in order, the one out of its front and the other out of the rest
 pub across : {X : Type 0} (R : X → X → Type 0) (xs ys : List X) (x y : X) → AllPairs R (xs ++ ys) → Contains xs x → Contains ys y → R x y

@@ -1,5 +1,6 @@
 -- Calls: what each call of an ungrouped accumulator answers, and what is held after it.
 --   Call        update, merge, evaluate or state, with its arguments
+--   batch_call  the call that a batch is: an update has no flags, a merge has
 --   declined    what declines a call, where this is held
 --   answered    what a call that is not declined answers
 --   answer      the answer of a call, from the making, what is held, the call and the buffers before it
@@ -25,6 +26,10 @@ pub data Call : Type 0 where
   merge : Given → Flags → Call
   evaluate : Call
   state : Call
+
+abbrev pub batch_call : Given → Option Flags → Call
+batch_call g None = update g
+batch_call g (Some f) = merge g f
 
 unfoldable pub declined : Alone → Option Kept → Call → Outputs → Option Fault
 declined a held (update g) o = ungrouped_declined a.making g None

@@ -1,8 +1,7 @@
 pub mod Rows
 pub mod Held
 pub mod Calls
-pub mod Walk
+pub mod Found
 pub mod Accumulators
-pub mod Taking
 pub mod Runs
 pub mod Reached

@@ -1,17 +1,18 @@
-// FIRST and LAST values without groups, generic over the value state and the row order.
+//! FIRST and LAST values without groups, generic over the value state and the row order.
+//!
+//! The original's `FirstValueAccumulator` and `LastValueAccumulator` (`first_last.rs`).
 #![tactic(auto)]
 
-mod alone;
-mod batches;
-mod emission;
-mod entries;
-mod first;
-mod last;
+mod accumulators;
+mod calls;
+mod directions;
+mod ends;
+mod finding;
 mod looking;
 mod making;
 mod origin;
 mod single;
 mod taking;
-mod walk;
 
-pub use alone::{FirstValueAccumulator, LastValueAccumulator};
+pub use accumulators::{FirstValueAccumulator, LastValueAccumulator, ValueAccumulator};
+pub use directions::{Direction, First, Last};

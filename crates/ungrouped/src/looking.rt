@@ -1,37 +1,33 @@
-// What an ungrouped accumulator holds, to be looked at.
+//! What an ungrouped accumulator holds, to be looked at.
 ghost use Rattle.std.specs.Prelude.{◌≡◌};
 
-use crate::{FirstValueAccumulator, LastValueAccumulator};
+use crate::ValueAccumulator;
+use crate::directions::Direction;
+use keeping::Keeper;
 use tables::{RowOrder, ValueState};
 
-impl<S: ValueState, O: RowOrder> FirstValueAccumulator<S, O> {
-    // The held value, the first of its state.
+impl<S: ValueState, O: RowOrder, D: Direction> ValueAccumulator<S, O, D> {
+    /// The keeper, whose one group is the held row; its cells are null where none is held.
+    #[inline]
+    pub fn keeper(&self) -> &Keeper<S, O>
+        ensures { result.now ≡ self.now.single.keeper }
+    {
+        &self.single.keeper
+    }
+
+    /// The state, whose first value is the held one; null where no row is held.
+    #[inline]
     pub fn values(&self) -> &S
-        ensures { result.now ≡ self.now.single.state }
+        ensures { result.now ≡ self.now.single.keeper.state }
     {
-        &self.single.state
+        &self.single.keeper.state
     }
 
-    // The held key, the first of its order.
+    /// The order, whose first key is the held one; all null where no row is held.
+    #[inline]
     pub fn keys(&self) -> &O
-        ensures { result.now ≡ self.now.single.order }
+        ensures { result.now ≡ self.now.single.keeper.order }
     {
-        &self.single.order
-    }
-}
-
-impl<S: ValueState, O: RowOrder> LastValueAccumulator<S, O> {
-    // The held value, the first of its state.
-    pub fn values(&self) -> &S
-        ensures { result.now ≡ self.now.single.state }
-    {
-        &self.single.state
-    }
-
-    // The held key, the first of its order.
-    pub fn keys(&self) -> &O
-        ensures { result.now ≡ self.now.single.order }
-    {
-        &self.single.order
+        &self.single.keeper.order
     }
 }

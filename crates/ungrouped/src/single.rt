@@ -1,18 +1,16 @@
-// What an ungrouped FIRST and an ungrouped LAST share: a group table of one entry for the value, one for the key, and how they were made.
+//! What is held without groups.
 ghost use Rattle.std.specs.Prelude.{◌≡◌, length};
+ghost use Rattle.keeping.specs.Keepers.{cells};
 
 use crate::origin::Origin;
+use keeping::Keeper;
 use tables::GroupTable;
 
-// The held row: where it came from, if one is held, its value and its key. By a rule of the project state and order stand in it by value.
+/// A keeper of one group, where its row came from, if one is held, and whether input is said to arrive in order.
 #[derive(Drop)]
 pub struct Single<S: GroupTable, O: GroupTable> {
-    pub(crate) state: S,
-    pub(crate) order: O,
+    pub(crate) keeper: Keeper<S, O>,
     pub(crate) held: Option<Origin>,
-    pub(crate) pick_first: bool,
-    pub(crate) ignore_nulls: bool,
     pub(crate) is_input_pre_ordered: bool,
-    ghost valued: { length (S.GroupTable.entries state) ≡ 1 },
-    ghost keyed: { length (O.GroupTable.entries order) ≡ 1 },
+    ghost one: { length (cells keeper) ≡ 1 },
 }

@@ -1,21 +1,23 @@
-// Taking the row that a batch puts up in place of what is held.
-ghost use Rattle.std.specs.Prelude.{◌≡◌, ℕ, Some, Ok};
+//! Batches: rows of a table, or states of other accumulators.
+ghost use Rattle.std.specs.Prelude.{◌≡◌, Some, Option};
 ghost use Rattle.column.specs.Seen.{marks_seen};
 ghost use Rattle.book.specs.Batches.{row_at};
-ghost use Rattle.checks.specs.Seen.{given_seen};
-ghost use Rattle.ungrouped.specs.Held.{origin_of, outdoes, gives_way};
-ghost use Rattle.ungrouped.specs.Walk.{entry_row, read_row, put_row, put_found};
-ghost use Rattle.ungrouped.specs.Accumulators.{alone, slot};
-ghost use Rattle.ungrouped.specs.Taking.{Takes, SameMade};
+ghost use Rattle.keeping.specs.Keepers.{Takes};
+ghost use Rattle.keeping.specs.Replies.{batch_answer, no_outputs};
+ghost use Rattle.keeping.specs.Seen.{given_seen};
+ghost use Rattle.ungrouped.specs.Accumulators.{alone, Stands, Obeys};
+ghost use Rattle.ungrouped.specs.Calls.{batch_call};
+ghost use Rattle.ungrouped.specs.Held.{Kept, origin_of, gives_way, stored};
+ghost use Rattle.ungrouped.specs.Rows.{arrives};
 
 use crate::origin::Origin;
 use crate::single::Single;
-use checks::Given;
 use column::BoolColumn;
-use faults::{Fault, Place, located};
+use faults::Fault;
+use keeping::{Given, check_ungrouped};
 use tables::{RowOrder, ValueState};
 
-// Where the rows of a batch come from.
+// Where the rows of a batch come from: a merge has flags.
 fn origin(flags: Option<BoolColumn>) -> Origin
     ensures { result ≡ origin_of (marks_seen flags.entry) }
 {
@@ -25,69 +27,54 @@ fn origin(flags: Option<BoolColumn>) -> Origin
     }
 }
 
-// How an accumulator was made is a fact of it before and after a call, so no invariant can say that it stays: clauses say it by `SameMade`.
 impl<S: ValueState, O: RowOrder> Single<S, O> {
-    // Whether a row of the batch outdoes the held one: ties count where LAST's input is in order.
-    fn outdoes_held(&self, given: &Given, row: usize) -> Result<bool, Fault>
-        requires { Takes self.now (given_seen given.now) row }
-        ensures { result ≡ Ok (outdoes (alone self.now).making (alone self.now).in_order (row_at (given_seen given.now) row) (entry_row (slot self.now))) }
+    // Whether the batch's rows are said to arrive in order: a merge's are not.
+    fn is_arriving(&self, flags: Option<BoolColumn>) -> bool
+        ensures { result ≡ arrives (alone self.now) (marks_seen flags.entry) }
     {
-        let verdict = self.order.compare_held(0, given.orders, given.count, row);
-        let verdict = located(verdict, Place::Call, 0)?;
-        Ok(self.supersedes(verdict, self.is_input_pre_ordered))
+        self.is_input_pre_ordered && flags.is_none()
     }
 
     // Whether what is held gives way to a row of the batch.
-    fn is_given_way(
-        &self,
-        given: &Given,
-        flags: Option<BoolColumn>,
-        row: usize,
-    ) -> Result<bool, Fault>
-        requires { Takes self.now (given_seen given.now) row }
-        ensures { result ≡ Ok (gives_way (alone self.now) (marks_seen flags.entry) (row_at (given_seen given.now) row) (read_row (slot self.now))) }
+    fn is_given_way(&self, given: &Given, flags: Option<BoolColumn>, row: usize) -> bool
+        requires { Takes self.now.keeper (given_seen given.now) row }
+        ensures { (held : Option Kept) → Stands self.now held → result ≡ gives_way (alone self.now) (marks_seen flags.entry) (row_at (given_seen given.now) row) held }
     {
         match self.held {
-            None => Ok(true),
-            Some(Origin::Update) if self.arrives_in_order(flags) => Ok(!self.pick_first),
-            Some(_) => self.outdoes_held(given, row),
+            None => true,
+            Some(Origin::Update) if self.is_arriving(flags) => !self.keeper.pick_first,
+            Some(_) => self.is_outdone(
+                self.keeper.compare_with_held(0, given, row),
+                self.is_input_pre_ordered,
+            ),
         }
     }
 
-    // Sets a row of the batch where what is held gives way to it.
-    fn put(&mut self, given: &Given, flags: Option<BoolColumn>, row: usize) -> Result<(), Fault>
-        requires { Takes self.old (given_seen given.now) row }
-        ensures fine { result ≡ Ok tt }
-        ensures after { slot self.new ≡ put_row (alone self.old) (marks_seen flags.entry) (given_seen given.now) (slot self.old) row }
-        ensures made { SameMade self.old self.new }
+    // Holds a row of the batch where what is held gives way to it.
+    fn offer(&mut self, given: &Given, flags: Option<BoolColumn>, row: usize)
+        requires { Takes self.old.keeper (given_seen given.now) row }
+        ensures holds { (held : Option Kept) → Stands self.old held → Stands self.new (stored (alone self.old) (marks_seen flags.entry) held (Some (row_at (given_seen given.now) row))) }
+        ensures made { alone self.new ≡ alone self.old }
     {
-        if self.is_given_way(given, flags, row)? {
-            located(self.state.update(0, &given.value, row), Place::Values, row)?;
-            located(
-                self.order.set_key(0, given.orders, given.count, row),
-                Place::Call,
-                row,
-            )?;
+        if self.is_given_way(given, flags, row) {
+            self.keeper.put(0, given, row);
             self.held = Some(origin(flags));
         }
-        Ok(())
     }
 
-    // Sets the row that was found, if there is one.
-    pub(crate) fn put_best(
+    // Takes a batch in, an update or a merge by its flags: the row that it puts up is held where what is held gives way to it. COLS, KIND, ROWS, FLAGS, LONG.
+    pub(crate) fn take_batch(
         &mut self,
         given: &Given,
         flags: Option<BoolColumn>,
-        best: Option<usize>,
     ) -> Result<(), Fault>
-        requires { (r : ℕ) → best ≡ Some r → Takes self.old (given_seen given.now) r }
-        ensures fine { result ≡ Ok tt }
-        ensures after { slot self.new ≡ put_found (alone self.old) (marks_seen flags.entry) (given_seen given.now) (slot self.old) best }
-        ensures made { SameMade self.old self.new }
+        ensures { Obeys self.old (batch_call (given_seen given.now) (marks_seen flags.entry)) no_outputs (record { result = batch_answer result; outputs = no_outputs }) self.new }
     {
-        match best {
-            None => Ok(()),
-            Some(row) => self.put(given, flags, row),
+        let keeper = &self.keeper;
+        check_ungrouped(&keeper.state, &keeper.order, given, flags)?;
+        if let Some(row) = self.find_row(given, flags) {
+            self.offer(given, flags, row);
         }
+        Ok(())
     }
 }

@@ -1,6 +1,11 @@
-// The value state of numbers.
+//! The value states that come with the stage: of numbers, of byte strings and of records.
 #![tactic(auto)]
 
-mod state;
+mod bytes;
+mod cells;
+mod number;
+mod record;
 
-pub use state::NumberValueState;
+pub use bytes::BytesValueState;
+pub use number::NumberValueState;
+pub use record::RecordValueState;

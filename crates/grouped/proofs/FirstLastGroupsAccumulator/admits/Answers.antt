@@ -2,9 +2,9 @@ use Rattle.std.proofs.Common.{arith}
 use Rattle.book.specs.Batches.{admitted}
 use Rattle.grouped.proofs.FirstLastGroupsAccumulator.admits.Goals as goal
 
-pub returns-after-self : goal.returns-after-self
+pub returns-then-passes : goal.returns-then-passes
 unfolding admitted
-returns-after-self g c = grind arith
+returns-then-passes g c = grind arith
 
 pub returns-else-passes : goal.returns-else-passes
 unfolding admitted

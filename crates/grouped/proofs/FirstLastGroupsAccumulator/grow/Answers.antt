@@ -1,14 +1,6 @@
-use Rattle.std.proofs.Common.{length, ap, arith}
-use Rattle.std.specs.Option.{option_map}
-use Rattle.faults.proofs.Whole.{placed_not, placed_whole}
-use Rattle.faults.specs.declared.Place.TheVariants.{Call}
-use Rattle.faults.specs.declared.Refusal.TheVariants.{State}
-use Rattle.grouped.proofs.Placing.{grow_fine}
+use Rattle.grouped.proofs.Gaining.{grown_keeps}
 use Rattle.grouped.proofs.FirstLastGroupsAccumulator.grow.Goals as goal
 
-pub returns-in_err-located : goal.returns-in_err-located
-returns-in_err-located g c =
-    let a = c.args.self.now in
-    absurd (placed_not State _ Call 0 _ _ c.grow.ensures.answer
-    (ap (option_map g.S.GroupTable.declines) (grow_fine (length (g.S.GroupTable.entries a.state)) c.args.total c.requires.1 (omega (arith, a.valued, c.requires.0))))
-    _ (placed_whole State _ _ _ _ c.in_err-located.ensures))
+pub returns-clause-keeps : goal.returns-clause-keeps
+returns-clause-keeps g c =
+    grown_keeps c.args.self.now c.grow.new.self c.grow-2.new.self c.grow.ensures.made c.args.total c.requires.more c.requires.room c.grow.ensures.values c.grow.ensures.ranks c.grow-2.ensures.flags

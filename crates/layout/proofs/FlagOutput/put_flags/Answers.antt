@@ -1,8 +1,8 @@
-use Rattle.std.proofs.Common.{◌≡◌, true, false, sym, ◌∙◌, rules}
+use Rattle.std.proofs.Common.{◌≡◌, true, false, sym, ◌∙◌}
 use Rattle.layout.specs.Layout.{fits_flags, written_flags}
 use Rattle.layout.specs.Written.{flag_parts_seen, flags_laid}
 use Rattle.layout.proofs.Contents.{refused, taken, kept, picked}
-use Rattle.layout.proofs.Packing.{flags_fit, known_all, holds_all}
+use Rattle.layout.proofs.Packing.{flags_fit}
 use Rattle.layout.proofs.FlagOutput.put_flags.Goals as goal
 
 pub returns-then-not-has_room : goal.returns-then-not-has_room
@@ -21,10 +21,6 @@ returns g c =
     let shows = g.F.FlagSource.shows c.args.flags.now in
     let laid = flags_laid shows c.args.rows in
     let f : fits_flags laid old ≡ true = flags_fit shows c.args.rows old ∙ sym c.if-not-has_room.ensures in
-    let a = c.put_bits.ensures in
-    let b = c.put_bits-2.ensures in
-    let s = known_all shows c.args.rows a.0 a.1 (λ k h. let p = a.2 k h in search (rules, p)) in
-    let t = holds_all shows c.args.rows b.0 b.1 (λ k h. let p = b.2 k h in search (rules, p)) in
     record {
       answer = taken (fits_flags laid old) f;
       after = picked (fits_flags laid old) (written_flags laid old) old _ f (cc);

@@ -1,5 +1,11 @@
-use Rattle.tables.proofs.Declining.{done_so, drop_fine}
+use Rattle.std.proofs.Common.{◌-◌, map, take, sym, ap, ◌∙◌}
+use Rattle.std.proofs.lemmas.List.{drop-map}
+use Rattle.grouped.proofs.Fronts.{front_moved}
+use Rattle.grouped.specs.declared.slots.Slot.{Slot}
 use Rattle.grouped.proofs.slots.SlotTable.drop_first.Goals as goal
 
-pub returns : goal.returns
-returns c = done_so _ _ _ _ c.drop_first.ensures.after (drop_fine _ c.args.n c.requires)
+pub returns-clause-flags : goal.returns-clause-flags
+returns-clause-flags c =
+    let t = c.args.self.now in
+    ap (map (λ (s : Slot). s.set)) (ap (take (t.len - c.args.n)) c.copy_within.ensures.after ∙ front_moved t.slots t.len c.args.n c.requires.held c.requires.places)
+    ∙ sym (drop-map (λ (s : Slot). s.set) c.args.n (take t.len t.slots))

@@ -1,22 +1,28 @@
-use Rattle.std.proofs.Common.{true, false, sym, ◌∙◌}
-use Rattle.column.specs.Seen.{marks_seen}
-use Rattle.checks.specs.Seen.{given_seen}
+use Rattle.std.proofs.Common.{rules, ◌≡◌, true, not, Some, None, refl, ◌∙◌}
+use Rattle.column.specs.Cells.{is_null}
+use Rattle.column.specs.Columns.{cell_at}
+use Rattle.column.specs.Seen.{flags_seen}
+use Rattle.keeping.specs.Seen.{given_seen}
 use Rattle.ungrouped.specs.Accumulators.{alone}
-use Rattle.ungrouped.proofs.Batching.{lawful}
-use Rattle.ungrouped.proofs.Walking.{found_more, found_start, ok_row}
+use Rattle.ungrouped.specs.Rows.{counts}
+use Rattle.ungrouped.proofs.Walking.{counts_each, counts_known, found_best}
 use Rattle.ungrouped.proofs.single.Single.find_row.Goals as goal
-use Rattle.ungrouped.proofs.single.Single.find_row.Goals.{then-is_counted+in_ok-best, else-is_counted}
 
-pub loop-row-init : goal.loop-row-init
-loop-row-init g c = found_start (alone c.args.self.now) (marks_seen c.args.flags) (given_seen c.args.given.now)
+pub returns-in-Some : goal.returns-in-Some
+returns-in-Some g c =
+    let a = alone c.args.self.now in
+    let gs = given_seen c.args.given.now in
+    let f = flags_seen c.in-Some.flags in
+    rw c.in-Some.is (found_best a (Some f) (counts a.making gs (Some f)) gs _ _ (c.top_row.ensures (counts a.making gs (Some f)) (λ r b q. search rules)) refl)
 
-pub loop-row-preserved : goal.loop-row-preserved
-loop-row-preserved g c =
-    let s = c.args.self.now in
-    let a = alone s in
-    let laws = lawful s g.met.S.ValueState.lawful g.met.O.RowOrder.lawful in
-    let more = found_more a laws (marks_seen c.args.flags) (given_seen c.args.given.now) c.loop-row.row c.loop-row.best c.if-is_counted.best in
-    elim c.if-is_counted.branch [
-      | then-is_counted+in_ok-best w ↦ more true c.loop-row.invariant (sym c.is_counted.ensures ∙ w.if-is_counted.true) (w.best-is ∙ ok_row _ _ w.in_ok-best.ensures)
-      | else-is_counted w ↦ more false c.loop-row.invariant (sym c.is_counted.ensures ∙ w.if-is_counted.false) w.best-is
-    ]
+pub returns-in-None : goal.returns-in-None
+returns-in-None g c =
+    let a = alone c.args.self.now in
+    let gs = given_seen c.args.given.now in
+    rw c.in-None.is (c.pick_row.ensures (counts a.making gs None) (λ r b q. let e : b ≡ not (is_null (cell_at gs.value r)) = search rules in e ∙ counts_known a.making gs r c.if-self.true))
+
+pub returns-in-None-2 : goal.returns-in-None-2
+returns-in-None-2 g c =
+    let a = alone c.args.self.now in
+    let gs = given_seen c.args.given.now in
+    rw c.in-None-2.is (c.pick_row-in-None-2.ensures (counts a.making gs None) (λ r b q. let e : b ≡ true = search rules in e ∙ counts_each a.making gs r c.if-self.false))

@@ -1,8 +1,0 @@
-use Rattle.std.proofs.Common.{◌∙◌, rules}
-use Rattle.checks.proofs.Checking.{cols_same}
-use Rattle.checks.specs.Seen.{made_with}
-use Rattle.checks.proofs.kinds.check_cols.Goals as goal
-
-pub returns : goal.returns
-returns g c = λ s first nulls.
-    (search rules) ∙ cols_same (made_with s (g.O.GroupTable.settings c.args.order.now) first nulls) c.args.given.now c.args.given.now.three

@@ -1,0 +1,4 @@
+pub mod Seen
+pub mod Fronts
+pub mod Keepers
+pub mod Replies

@@ -1,7 +1,0 @@
-use Rattle.std.proofs.Common.{[], ◌∷◌}
-use Rattle.column.specs.Cells.{fields_cell}
-use Rattle.tables.proofs.Fronts.{held_dropped}
-use Rattle.record_values.proofs.state.RecordValueStateGroupTable.drop_first.Goals as goal
-
-pub returns-clause-after : goal.returns-clause-after
-returns-clause-after c = held_dropped (λ x. fields_cell x ∷ []) c.args.self.now.cells c.drop_first.new.self c.args.n c.drop_first.ensures.after

@@ -1,2 +1,0 @@
-pub mod Rows
-pub mod Laid
