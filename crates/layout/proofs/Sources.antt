@@ -2,9 +2,10 @@
 use Rattle.std.proofs.Common.{◌≡◌, ℕ, zero, suc, ◌+◌, ◌*◌, ◌<◌, ◌≤◌, Bool, false, not, List, [], ◌∷◌, ◌++◌, map, length, get_or, take, sym, refl, ap, ◌∙◌, append-nil, add-one, arith}
 use borrow.Rule.Slice.PartMut.{put_mid}
 use Rattle.std.specs.List.{flat_map}
-use Rattle.std.proofs.lemmas.List.{length-map, get_or-map, ext_get_or, map-append, take_more}
+use Rattle.std.proofs.lemmas.List.{length-map, get_or-map, ext_get_or, map-append, take_all, take_more}
 use Rattle.std.proofs.lemmas.List.Concat.{flat_map-append}
 use Rattle.std.proofs.lemmas.List.FromFn.{length-map-range_with_len, get_or-map-range_with_len}
+use Rattle.std.proofs.lemmas.Simd.{map-map}
 use Rattle.column.specs.Cells.{Cell, null, is_null}
 use Rattle.column.specs.Columns.{count_up}
 use Rattle.layout.specs.Layout.{over}
@@ -54,6 +55,12 @@ rows_front xs d (suc n) h =
     ap (map (λ r. get_or xs r d)) (ap (count_up 0) (sym (add-one n))) ∙ rows_more (λ r. get_or xs r d) n
     ∙ ap (λ ys. ys ++ get_or xs n d ∷ []) (rows_front xs d n (omega arith))
     ∙ sym (take_more xs n d (omega arith)) ∙ ap (λ k. take k xs) (add-one n)
+
+-- what is made of each element of a list, by row
+pub rows_made : {X Y : Type 0} (f : X → Y) (xs : List X) (d : X) → map (λ r. f (get_or xs r d)) (count_up 0 (length xs)) ≡ map f xs
+rows_made f xs d =
+    sym (map-map f (λ r. get_or xs r d) (count_up 0 (length xs)))
+    ∙ ap (map f) (rows_front xs d (length xs) (omega arith) ∙ take_all (length xs) xs (omega arith))
 
 -- which of the rows are there
 pub there_rows : (shows : ℕ → Cell) (n : ℕ) (bs : List Bool) → length bs ≡ n → ((k : ℕ) → k < n → get_or bs k false ≡ not (is_null (shows k))) → bs ≡ map (λ c. not (is_null c)) (map shows (count_up 0 n))

@@ -4,6 +4,7 @@
 --   space_of       the space that parts need: a length for each
 --   roomy          buffers that have so much space
 --   rows_laid      the parts of a column of a kind: the cells of its first so many rows
+--   numbers_laid   the parts of a column of numbers, given by optional numbers
 --   measured       the space that parts need, if numbers of 64 bits say it
 --   ends_within    an offset of 32 bits says where a column of so many bytes ends; columns of numbers and of records have no offsets
 --   reached        offsets of 32 bits say where each string of a column begins and ends
@@ -14,9 +15,9 @@
 --   flag_room      buffers that have a bit for each of so many truth values, in both parts
 --   flags_laid     the parts of a column of the first so many truth values
 --   eight          eight truth values by row, from a multiple of eight on, as a byte, the lowest bit first
-use Rattle.std.specs.Prelude.{ℕ, ◌+◌, ◌*◌, ◌/◌, ◌^◌, Bool, true, ◌&&◌, List, [], ◌∷◌, map, length, take, Some, None, Option, nat_le, nat_lt, if◌then◌else◌}
+use Rattle.std.specs.Prelude.{ℕ, ◌+◌, ◌*◌, ◌/◌, ◌^◌, Bool, true, ◌&&◌, List, [], ◌∷◌, map, length, take, ℤ, Some, None, Option, nat_le, nat_lt, if◌then◌else◌}
 use Rattle.std.specs.Option.{option_map}
-use Rattle.column.specs.Cells.{Kind, numbers, strings, records, Cell, text_cell}
+use Rattle.column.specs.Cells.{Kind, numbers, strings, records, Cell, number_cell, text_cell}
 use Rattle.column.specs.Columns.{count_up}
 use Rattle.layout.specs.Layout.{Parts, FlagParts, binary, laid_out, laid_flags, fits}
 use Rattle.layout.specs.declared.FlagOutput.{FlagOutput}
@@ -39,6 +40,9 @@ roomy s before = nat_le s.validity (length before.validity) && (nat_le s.offsets
 
 abbrev pub rows_laid : Kind → (ℕ → Cell) → ℕ → Parts
 rows_laid k shows rows = laid_out k (map shows (count_up 0 rows))
+
+abbrev pub numbers_laid : List (Option ℤ) → Parts
+numbers_laid xs = laid_out numbers (map number_cell xs)
 
 abbrev pub measured : Parts → Option Space
 measured p = if nat_lt (length p.offsets) (2 ^ 64) && nat_lt (length p.content) (2 ^ 64) then Some (space_of p) else None

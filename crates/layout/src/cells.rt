@@ -7,7 +7,7 @@ ghost use Rattle.column.specs.Seen.{kind_seen};
 ghost use Rattle.column.specs.Views.{view_seen};
 ghost use Rattle.layout.specs.declared.OutputFault.TheVariants as output;
 ghost use Rattle.layout.specs.Layout.{validity_of, over, written};
-ghost use Rattle.layout.specs.Written.{parts_seen, space_of, rows_laid, ends_within, has_place};
+ghost use Rattle.layout.specs.Written.{parts_seen, rows_laid, ends_within, has_place};
 
 use crate::bits::put_bits;
 use crate::numbers::put_numbers;
@@ -55,22 +55,10 @@ fn reaches(kind: Kind, space: &Space) -> bool
 }
 
 impl<'a> Output<'a> {
-    // The length of each buffer.
-    fn lengths(&self) -> Space
-        ensures { result ≡ space_of (parts_seen self.now) }
-    {
-        Space {
-            validity: self.validity.len(),
-            offsets: self.offsets.len(),
-            data: self.data.len(),
-        }
-    }
-
     // Whether a column of the first `rows` cells can be written.
     fn has_place<C: CellSource>(&self, kind: Kind, cells: &C, rows: usize) -> bool
         ensures { result ≡ has_place (kind_seen kind) (rows_laid (kind_seen kind) (C.CellSource.shows cells.now) rows) (parts_seen self.now) }
     {
-        let lengths = self.lengths();
         match Space::of_cells(kind, cells, rows) {
             Some(space) => reaches(kind, &space) && space.fits(self),
             None => false,
