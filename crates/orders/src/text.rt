@@ -193,13 +193,13 @@ impl RowOrder for TextOrder {
     }
 
     #[inline]
-    fn is_named_taken(&self, _named: usize, column: &Column, row: usize) -> bool {
-        is_short(column, row)
+    fn is_named_taken(&self, named: usize, column: &Column, row: usize) -> bool {
+        named >= 1 || is_short(column, row)
     }
 
     // The offsets alone mostly tell that no string is too long.
-    fn first_untaken(&self, _named: usize, column: &Column) -> Option<usize> {
-        if longest(column.offsets) <= 32 {
+    fn first_untaken(&self, named: usize, column: &Column) -> Option<usize> {
+        if named >= 1 || longest(column.offsets) <= 32 {
             return None;
         }
         first_long(column)

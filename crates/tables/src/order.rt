@@ -1,6 +1,7 @@
 //! Row orders.
-ghost use Rattle.std.specs.Prelude.{◌≡◌, ◌<◌, false, IfSome, [], ◌∷◌, map, length, drop, find, not, nat_le, slice_get, slice_index_or, slice_set, if◌then◌else◌};
+ghost use Rattle.std.specs.Prelude.{◌≡◌, ◌<◌, ◌≤◌, false, true, None, IfSome, [], ◌∷◌, map, length, drop, find, not, nat_le, slice_get, slice_index_or, slice_set, if◌then◌else◌};
 ghost use Rattle.std.specs.Option.{option_map};
+ghost use Rattle.std.specs.declared.cmp.Ordering.TheVariants.{Equal};
 ghost use Rattle.column.specs.Cells.{null};
 ghost use Rattle.column.specs.Checks.{outcome, unless_refused, Settles};
 ghost use Rattle.column.specs.Columns.{count_up};
@@ -27,14 +28,16 @@ pub trait RowOrder: GroupTable<Fault = OrderFault> {
     fn kind_of(&self, named: usize) -> Option<Kind>
         ensures { option_map kind_seen result ≡ slice_get (Self.settings self.now).kinds named };
 
-    /// Whether the cell in a row is taken as column `named`, one of those read, the column read as one of its kind.
+    /// Whether the cell in a row is taken as column `named`, the column read as one of its kind; true where no such column is read, of which nothing is asked.
     fn is_named_taken(&self, named: usize, column: &Column, row: usize) -> bool
-        ensures { named < length (Self.settings self.now).kinds → result ≡ named_taken (Self.settings self.now) named (column_seen column.now) row };
+        ensures read { named < length (Self.settings self.now).kinds → result ≡ named_taken (Self.settings self.now) named (column_seen column.now) row }
+        ensures unread { length (Self.settings self.now).kinds ≤ named → result ≡ true };
 
-    /// The lowest row whose cell is not taken as column `named`, one of those read, the column read as one of its kind.
+    /// The lowest row whose cell is not taken as column `named`, the column read as one of its kind; none where no such column is read.
     #[inline]
     fn first_untaken(&self, named: usize, column: &Column) -> Option<usize>
-        ensures { named < length (Self.settings self.now).kinds → result ≡ find (λ r. not (named_taken (Self.settings self.now) named (column_seen column.now) r)) (count_up 0 column.now.rows) }
+        ensures read { named < length (Self.settings self.now).kinds → result ≡ find (λ r. not (named_taken (Self.settings self.now) named (column_seen column.now) r)) (count_up 0 column.now.rows) }
+        ensures unread { length (Self.settings self.now).kinds ≤ named → result ≡ None }
     {
         for row in 0..column.rows {
             if !self.is_named_taken(named, column, row) {
@@ -57,9 +60,10 @@ pub trait RowOrder: GroupTable<Fault = OrderFault> {
         None
     }
 
-    /// How the key of a row, read in the same way, stands to the key of a group that is held.
+    /// How the key of a row, read in the same way, stands to the key of a group that is held; `Equal` where no such group is.
     fn compare_with_held(&self, group_idx: usize, columns: &[Column], row: usize) -> Ordering
-        ensures { group_idx < length (Self.entries self.now) → result ≡ verdict (Self.settings self.now) (key_read (Self.settings self.now).kinds (map column_seen columns.now) row) (slice_index_or (Self.entries self.now) group_idx []) };
+        ensures held { group_idx < length (Self.entries self.now) → result ≡ verdict (Self.settings self.now) (key_read (Self.settings self.now).kinds (map column_seen columns.now) row) (slice_index_or (Self.entries self.now) group_idx []) }
+        ensures missing { length (Self.entries self.now) ≤ group_idx → result ≡ Equal };
 
     /// Sets one group's key to the key of a row, read in the same way, and no other; nothing where a cell of it is not taken, or the group not held.
     fn put_key(&mut self, group_idx: usize, columns: &[Column], row: usize)

@@ -21,7 +21,7 @@ returns-in-Some g c =
     let read = named_passed s.kinds j v c.requires in
     let same = λ (r : ℕ). ap not (named_is_taken s j v r read.within (ap not read.kind)) in
     let untaken : ℕ → Bool = λ r. not (s.takes j (cell_at v r)) in
-    let found = sym c.in-Some.is ∙ c.first_untaken.ensures read.within in
+    let found = sym c.in-Some.is ∙ c.first_untaken.ensures.read read.within in
     let here = found_row _ _ _ found in
     first_row untaken _ (λ r. fault LONG in_order (order_column j) r) _ _ _ same found
     (ap declined_seen (placed_whole Order _ _ _ _ c.located.ensures ∙ ap (λ x. placed Order x c.of_key.result c.in-Some.row) c.takes_named.ensures)
@@ -35,4 +35,4 @@ returns-in-None g c =
     let j = c.args.j in
     let read = named_passed s.kinds j v c.requires in
     let untaken : ℕ → Bool = λ r. not (s.takes j (cell_at v r)) in
-    first_row untaken _ (λ r. fault LONG in_order (order_column j) r) _ _ _ (λ r. ap not (named_is_taken s j v r read.within (ap not read.kind))) (sym c.in-None.is ∙ c.first_untaken.ensures read.within) refl
+    first_row untaken _ (λ r. fault LONG in_order (order_column j) r) _ _ _ (λ r. ap not (named_is_taken s j v r read.within (ap not read.kind))) (sym c.in-None.is ∙ c.first_untaken.ensures.read read.within) refl

@@ -27,4 +27,4 @@ returns g c =
     let e = passed _ _ _ c.in_ok-check_held_key.ensures in
     let k = key_settled s _ c.args.columns c.args.count (c.args.row ∷ []) e in
     let h = leb-false _ _ (key_held s (leb (length es) c.args.group_idx) c.args.columns c.args.count (c.args.row ∷ []) e) in
-    ap Ok (c.compare_with_held.ensures h ∙ ap (λ x. verdict s x (get_or es c.args.group_idx [])) (k c.args.row)) ∙ answer_none _ _ e
+    ap Ok (c.compare_with_held.ensures.held h ∙ ap (λ x. verdict s x (get_or es c.args.group_idx [])) (k c.args.row)) ∙ answer_none _ _ e

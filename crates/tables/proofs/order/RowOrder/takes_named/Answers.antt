@@ -24,7 +24,7 @@ returns-then-not-is_named_taken g c =
     let u = passed _ _ _ c.in_ok-reads_named.ensures in
     let l = lt-ltb c.args.row c.args.column.now.rows c.if-row-column.false in
     let p = named_settled (g.Self.GroupTable.settings c.args.self.now) c.args.named (column_seen c.args.column.now) c.args.row u in
-    let t = sym (c.if-not-is_named_taken.ensures p.0 ∙ p.1) in
+    let t = sym (c.if-not-is_named_taken.ensures.read p.0 ∙ p.1) in
     answer_some _ _ _ (k ∙ rw (u, l, t))
 
 pub returns : goal.returns
@@ -33,5 +33,5 @@ returns g c =
     let u = passed _ _ _ c.in_ok-reads_named.ensures in
     let l = lt-ltb c.args.row c.args.column.now.rows c.if-row-column.false in
     let p = named_settled (g.Self.GroupTable.settings c.args.self.now) c.args.named (column_seen c.args.column.now) c.args.row u in
-    let t = sym (c.if-not-is_named_taken.ensures p.0 ∙ p.1) in
+    let t = sym (c.if-not-is_named_taken.ensures.read p.0 ∙ p.1) in
     answer_none _ _ (k ∙ rw (u, l, t))
