@@ -10,6 +10,8 @@ mod groups;
 #[cfg(test)]
 mod lengths;
 #[cfg(test)]
+mod lifetimes;
+#[cfg(test)]
 mod lines;
 #[cfg(test)]
 mod stages;

@@ -37,13 +37,13 @@ impl<S: ValueState, O: RowOrder> FirstLastGroupsAccumulator<S, O> {
     /// The values, the first `count` of the order columns, a group number for each row and the filter, if there is one, all have one length; a row counts where the filter is true and not null. `total_num_groups` groups are held afterwards, at most 256 and no fewer than before.
     ///
     /// Refused, in this order: COLS, KIND, ROWS, TOTAL, SHRUNK, GROUP, LONG. A refused batch changes nothing.
-    pub fn update_batch<'a>(
+    pub fn update_batch(
         &mut self,
-        values: Column<'a>,
-        orderings: [Column<'a>; 3],
+        values: Column,
+        orderings: [Column; 3],
         count: usize,
-        group_indices: &'a [usize],
-        opt_filter: Option<BoolColumn<'a>>,
+        group_indices: &[usize],
+        opt_filter: Option<BoolColumn>,
         total_num_groups: usize,
     ) -> Result<(), Fault>
         ensures { Obeys self.old
@@ -66,13 +66,13 @@ impl<S: ValueState, O: RowOrder> FirstLastGroupsAccumulator<S, O> {
     /// Takes a state's columns in, as `update_batch` takes a batch whose filter is the flags column: a row counts where its flag is true and not null. The original's `merge_batch`.
     ///
     /// Refused as there.
-    pub fn merge_batch<'a>(
+    pub fn merge_batch(
         &mut self,
-        values: Column<'a>,
-        orderings: [Column<'a>; 3],
+        values: Column,
+        orderings: [Column; 3],
         count: usize,
-        group_indices: &'a [usize],
-        is_set: BoolColumn<'a>,
+        group_indices: &[usize],
+        is_set: BoolColumn,
         total_num_groups: usize,
     ) -> Result<(), Fault>
         ensures { Obeys self.old

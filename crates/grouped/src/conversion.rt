@@ -60,12 +60,12 @@ impl<S: ValueState, O: RowOrder> FirstLastGroupsAccumulator<S, O> {
     /// Writes the flags column that makes a batch's own columns the states of its rows: the filter with its nulls, or all true. The original's `convert_to_state`.
     ///
     /// Refused, in this order: COLS, ROWS, SPACE. A refused call writes nothing.
-    pub fn convert_to_state<'a>(
+    pub fn convert_to_state(
         &self,
-        values: Column<'a>,
-        orderings: [Column<'a>; 3],
+        values: Column,
+        orderings: [Column; 3],
         count: usize,
-        opt_filter: Option<BoolColumn<'a>>,
+        opt_filter: Option<BoolColumn>,
         out: &mut FlagOutput,
     ) -> Result<(), Fault>
         ensures obeys { Obeys self.now

@@ -14,7 +14,7 @@ use tables::{Leading, RowOrder, ValueState};
 impl<S: ValueState, O: RowOrder> Keeper<S, O> {
     /// The column of numbers by which rows are compared first, if the order has one that is worth a walk of its own.
     #[inline]
-    pub fn leading<'a>(&self, given: &Given<'a>) -> Option<Leading<'a>>
+    pub fn leading<'keys>(&self, given: &Given<'_, 'keys>) -> Option<Leading<'keys>>
         ensures { IfSome result (LeadsIn (O.GroupTable.settings self.now.order) (order_columns (given_seen given.now))) }
     {
         self.order.leading(given.keys())

@@ -25,11 +25,11 @@ use layout::{FlagOutput, KeyOutputs, Output};
 
 /// The columns of a call: a value column, and the first `count` of an array of order columns. An array and a count, and no slice, since an accumulator's calls refuse a count that no array has room for.
 #[derive(Clone, Copy)]
-pub struct Given<'a> {
+pub struct Given<'values, 'keys> {
     /// The value column.
-    pub value: Column<'a>,
+    pub value: Column<'values>,
     /// The order columns; those past the count are not looked at.
-    pub orders: [Column<'a>; 3],
+    pub orders: [Column<'keys>; 3],
     /// How many order columns are given.
     pub count: usize,
     // Behind a reference the length of an array is not known without this.
@@ -38,13 +38,13 @@ pub struct Given<'a> {
 
 /// A batch: its columns, a filter or flags, a group index for each row, and the total number of groups.
 #[derive(Clone, Copy)]
-pub struct Batch<'a> {
+pub struct Batch<'values, 'keys, 'groups, 'marks> {
     /// The value column and the order columns.
-    pub columns: Given<'a>,
+    pub columns: Given<'values, 'keys>,
     /// The filter of an update, or the flags of a merge.
-    pub filter: Option<BoolColumn<'a>>,
+    pub filter: Option<BoolColumn<'marks>>,
     /// The group of each row.
-    pub indices: &'a [usize],
+    pub indices: &'groups [usize],
     /// How many groups there are after the call.
     pub total: usize,
 }

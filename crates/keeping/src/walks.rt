@@ -11,10 +11,10 @@ use crate::Given;
 use column::Column;
 use faults::Fault;
 
-impl<'a> Given<'a> {
+impl<'keys> Given<'_, 'keys> {
     // The order columns that are given.
     #[inline]
-    pub(crate) fn keys(&self) -> &[Column<'a>]
+    pub(crate) fn keys(&self) -> &[Column<'keys>]
         ensures { result.now ≡ take self.now.count self.now.orders }
     {
         &self.orders[..self.count.min(3)]
@@ -22,8 +22,8 @@ impl<'a> Given<'a> {
 }
 
 // The refusal of a check in the first order column that it declines; columns are numbered from 0.
-pub(crate) fn at_column<'a, F: Fn(usize, Column<'a>) -> Result<(), Fault>>(
-    given: &Given<'a>,
+pub(crate) fn at_column<'keys, F: Fn(usize, Column<'keys>) -> Result<(), Fault>>(
+    given: &Given<'_, 'keys>,
     check: F,
 ) -> Result<(), Fault>
     requires { (j : ℕ) (c : _) → j < given.now.count → slice_get given.now.orders j ≡ Some c → F.pre check j c }

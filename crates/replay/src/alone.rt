@@ -19,10 +19,10 @@ pub trait Alone {
     type Order: RowOrder;
 
     // Rows come in.
-    fn update<'a>(&mut self, given: &Given<'a>) -> Result<(), Fault>;
+    fn update(&mut self, given: &Given) -> Result<(), Fault>;
 
     // Rows that other accumulators wrote out come in.
-    fn merge<'a>(&mut self, given: &Given<'a>, flags: BoolColumn<'a>) -> Result<(), Fault>;
+    fn merge(&mut self, given: &Given, flags: BoolColumn) -> Result<(), Fault>;
 
     // The value goes out.
     fn evaluate(&self, out: &mut Output) -> Result<(), Fault>;
@@ -43,12 +43,12 @@ impl<S: ValueState, O: RowOrder> Alone for FirstValueAccumulator<S, O> {
     type Order = O;
 
     // Rows come in.
-    fn update<'a>(&mut self, given: &Given<'a>) -> Result<(), Fault> {
+    fn update(&mut self, given: &Given) -> Result<(), Fault> {
         self.update_batch(given.value, given.orders, given.count)
     }
 
     // Rows that other accumulators wrote out come in.
-    fn merge<'a>(&mut self, given: &Given<'a>, flags: BoolColumn<'a>) -> Result<(), Fault> {
+    fn merge(&mut self, given: &Given, flags: BoolColumn) -> Result<(), Fault> {
         self.merge_batch(given.value, given.orders, given.count, flags)
     }
 
@@ -79,12 +79,12 @@ impl<S: ValueState, O: RowOrder> Alone for LastValueAccumulator<S, O> {
     type Order = O;
 
     // Rows come in.
-    fn update<'a>(&mut self, given: &Given<'a>) -> Result<(), Fault> {
+    fn update(&mut self, given: &Given) -> Result<(), Fault> {
         self.update_batch(given.value, given.orders, given.count)
     }
 
     // Rows that other accumulators wrote out come in.
-    fn merge<'a>(&mut self, given: &Given<'a>, flags: BoolColumn<'a>) -> Result<(), Fault> {
+    fn merge(&mut self, given: &Given, flags: BoolColumn) -> Result<(), Fault> {
         self.merge_batch(given.value, given.orders, given.count, flags)
     }
 

@@ -66,7 +66,7 @@ fn column(parts: &Parts, place: Place) -> Result<Column<'_>, Declined> {
 }
 
 // The columns of a call; of more than three keys all are made, and the first three are given.
-pub fn given(columns: &Columns) -> Result<Given<'_>, Declined> {
+pub fn given(columns: &Columns) -> Result<Given<'_, '_>, Declined> {
     let value = column(&columns.values, Place::Values)?;
     let mut orders = [value; 3];
     for (j, parts) in columns.keys.iter().enumerate() {

@@ -45,10 +45,10 @@ impl<S: ValueState, O: RowOrder, D: Direction> ValueAccumulator<S, O, D> {
     /// Takes rows in: for FIRST the earliest, for LAST the latest that no other of them beats, or of input in order the first or the last, is held where what is held gives way to it. The original's `update_batch`.
     ///
     /// The order columns come as an array, of which the first `count` are read. COLS, KIND, ROWS and LONG leave what is held unchanged.
-    pub fn update_batch<'a>(
+    pub fn update_batch(
         &mut self,
-        values: Column<'a>,
-        orderings: [Column<'a>; 3],
+        values: Column,
+        orderings: [Column; 3],
         count: usize,
     ) -> Result<(), Fault>
         ensures { Obeys self.old.single (update (given_of values.entry orderings.entry count)) no_outputs (record { result = batch_answer result; outputs = no_outputs }) self.new.single }
@@ -64,12 +64,12 @@ impl<S: ValueState, O: RowOrder, D: Direction> ValueAccumulator<S, O, D> {
     /// Takes states of other accumulators in: of the rows whose flag is true, whatever the null policy, the earliest for FIRST, the latest for LAST that no other of them beats is held where what is held gives way to it. The original's `merge_batch`.
     ///
     /// The columns come as in an update. COLS, KIND, ROWS, FLAGS where a flag is null, and LONG leave what is held unchanged.
-    pub fn merge_batch<'a>(
+    pub fn merge_batch(
         &mut self,
-        values: Column<'a>,
-        orderings: [Column<'a>; 3],
+        values: Column,
+        orderings: [Column; 3],
         count: usize,
-        is_set: BoolColumn<'a>,
+        is_set: BoolColumn,
     ) -> Result<(), Fault>
         ensures { Obeys self.old.single (merge (given_of values.entry orderings.entry count) (flags_seen is_set.entry)) no_outputs (record { result = batch_answer result; outputs = no_outputs }) self.new.single }
     {
