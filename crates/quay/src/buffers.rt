@@ -1,27 +1,7 @@
 // Arrow buffers for columns of numbers and of truth values.
-ghost use Rattle.std.specs.Prelude.{None, slice_index_or};
-ghost use Rattle.column.specs.Cells.{number_cell};
-
-use column::{BoolColumn, CellView, Column, ColumnFault, Kind};
-use layout::{CellSource, FlagOutput, FlagSource, Output};
+use column::{BoolColumn, Column, ColumnFault};
+use layout::{FlagOutput, FlagSource, Output};
 use std::alloc::{AllocError, Global};
-
-// Numbers by row, each of which may be null.
-#[derive(Clone, Copy)]
-struct Cells<'a> {
-    numbers: &'a [Option<i64>],
-}
-
-impl CellSource for Cells<'_> {
-    ghost shows = { λ s row. number_cell (slice_index_or s.numbers.now row None) };
-
-    fn cell_view(&self, row: usize) -> CellView<'_> {
-        match self.numbers.get(row) {
-            Some(Some(number)) => CellView::Number(*number),
-            _ => CellView::Null,
-        }
-    }
-}
 
 // The buffers of a column of numbers.
 #[derive(Drop)]
@@ -42,8 +22,7 @@ impl Numbers {
     pub fn of(heap: Global, cells: &[Option<i64>]) -> Result<Numbers, AllocError> {
         let mut made = Numbers::room(heap, cells.len())?;
         // There is room for them.
-        let source = Cells { numbers: cells };
-        let _ = made.output().put_cells(Kind::Number, &source, cells.len());
+        let _ = made.output().put_numbers(cells);
         Ok(made)
     }
 
