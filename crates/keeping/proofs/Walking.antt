@@ -49,17 +49,29 @@ found_from_row q (suc n) i r e = go (q i) refl e (found_from_row q n (suc i) r)
 pub found_row : (q : ℕ → Bool) (n r : ℕ) → Some r ≡ find q (count_up 0 n) → (r < n) × (q r ≡ true)
 found_row q n r e = let w = found_from_row q n 0 r (sym e) in (omega (arith, w.0), w.1)
 
--- where no element has a test, none is the first
-none_from : (p : ℕ → Bool) (xs : List ℕ) (i : ℕ) → list_any p xs ≡ false → position_from p i xs ≡ None
-none_from p [] i e = refl
-none_from p (x ∷ xs) i e = go (p x) e (none_from p xs (i + 1))
+-- where none of so many elements from the front on has a test, the first that has one is among the others
+pub skip_from : (p : ℕ → Bool) (n : ℕ) (xs : List ℕ) (i : ℕ) → list_any p (take n xs) ≡ false → position_from p i xs ≡ position_from p (i + n) (drop n xs)
+skip_from p zero xs i e = rw add-zero refl
+skip_from p (suc n) [] i e = refl
+skip_from p (suc n) (x ∷ xs) i e = go (p x) e (skip_from p n xs (i + 1))
   where
-    go : (b : Bool) → (b || list_any p xs) ≡ false → (list_any p xs ≡ false → position_from p (i + 1) xs ≡ None) → cond b (Some i) (position_from p (i + 1) xs) ≡ None
+    go : (b : Bool) → (b || list_any p (take n xs)) ≡ false → (list_any p (take n xs) ≡ false → position_from p (i + 1) xs ≡ position_from p (i + 1 + n) (drop n xs))
+        → cond b (Some i) (position_from p (i + 1) xs) ≡ position_from p (i + suc n) (drop n xs)
     go true k h = absurd (false≢true (sym k))
-    go false k h = h k
+    go false k h = let z : i + suc n ≡ i + 1 + n = omega arith in rw z (h k)
 
-pub none_past : (p : ℕ → Bool) (xs : List ℕ) → list_any p xs ≡ false → None ≡ position p xs
-none_past p xs e = sym (position_from-zero p xs ∙ none_from p xs 0 e)
+-- counted from further on
+shift_from : (p : ℕ → Bool) (n : ℕ) (xs : List ℕ) (i : ℕ) → position_from p (i + n) xs ≡ option_map (λ r. n + r) (position_from p i xs)
+shift_from p n [] i = refl
+shift_from p n (x ∷ xs) i = go (p x) (shift_from p n xs (i + 1))
+  where
+    go : (b : Bool) → position_from p (i + 1 + n) xs ≡ option_map (λ r. n + r) (position_from p (i + 1) xs)
+        → cond b (Some (i + n)) (position_from p (i + n + 1) xs) ≡ option_map (λ r. n + r) (cond b (Some i) (position_from p (i + 1) xs))
+    go true h = let z : i + n ≡ n + i = omega arith in ap Some z
+    go false h = let z : i + n + 1 ≡ i + 1 + n = omega arith in rw z h
+
+pub position_behind : (p : ℕ → Bool) (n : ℕ) (xs : List ℕ) → position_from p n xs ≡ option_map (λ r. n + r) (position p xs)
+position_behind p n xs = let z : 0 + n ≡ n = omega arith in (rw z at (shift_from p n xs 0)) ∙ ap (option_map (λ r. n + r)) (sym (position_from-zero p xs))
 
 -- the lowest row with a test, as the place of the first number that passes it
 found_from : (p q : ℕ → Bool) (f : ℕ → Fault) (xs : List ℕ) (i : ℕ) → ((k : ℕ) → k < length xs → q (i + k) ≡ p (get_or xs k 0))

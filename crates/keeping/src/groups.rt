@@ -27,15 +27,26 @@ fn some_past(indices: &[usize], total: usize) -> bool
     past
 }
 
-// The first row whose group is not below the total.
+// The first row whose group is not below the total, row by row.
+fn find_past(indices: &[usize], total: usize) -> Option<usize>
+    ensures { result ≡ position (λ group. nat_le total group) indices.now }
+{
+    indices.iter().position(|group| *group >= total)
+}
+
+// The same, so many rows at once, of which those behind the first are not gone through.
 fn first_past(indices: &[usize], total: usize) -> Option<usize>
     ensures { result ≡ position (λ group. nat_le total group) indices.now }
 {
-    if some_past(indices, total) {
-        indices.iter().position(|group| *group >= total)
-    } else {
-        None
+    let mut from = 0;
+    while indices.len() - from > 64 {
+        if some_past(&indices[from..from + 64], total) {
+            break;
+        }
+        from += 64;
     }
+    let row = find_past(&indices[from..], total)?;
+    Some(from + row)
 }
 
 // GROUP.
