@@ -83,8 +83,11 @@ impl SlotTable {
         ensures len { self.new.len ≡ self.old.len - n }
         ensures places { length self.new.slots ≡ length self.old.slots }
     {
-        self.slots.copy_within(n..self.len, 0);
-        self.len -= n;
+        // Where none leaves, none has to move.
+        if n > 0 {
+            self.slots.copy_within(n..self.len, 0);
+            self.len -= n;
+        }
     }
 }
 

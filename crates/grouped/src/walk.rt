@@ -113,7 +113,7 @@ impl<S: ValueState, O: RowOrder> FirstLastGroupsAccumulator<S, O> {
         }
     }
 
-    // The same, rows compared by the leading column, which costs less than a branch.
+    // The same, rows compared by the leading column without a branch. Still a row that is not admitted is not compared: a filter that seldom holds would else cost as much as none.
     fn mark_by_leading(&self, leading: Leading, batch: &Batch, best: &mut Extremes)
         requires leads { Leads self.now.kept (batch_seen batch.now).columns leading }
         requires taken { TakesAll self.now (batch_seen batch.now) }
@@ -129,7 +129,7 @@ impl<S: ValueState, O: RowOrder> FirstLastGroupsAccumulator<S, O> {
         } else {
             let chooses_admitted = |row: usize, marked: Option<usize>| -> bool
                 ensures { Leads self.entry.now.kept (batch_seen batch.entry.now).columns leading.entry → Chooses self.entry.now (batch_seen batch.entry.now) (marks_seen batch.entry.now.filter) row marked result }
-            { self.admits(batch, row) & self.outranks_by(&leading, &batch.columns, row, marked) };
+            { self.admits(batch, row) && self.outranks_by(&leading, &batch.columns, row, marked) };
             self.mark_winners(batch, best, chooses_admitted);
         }
     }
