@@ -81,9 +81,27 @@ fn outputs_exactly_full_and_one_short(rt: HostRuntime) -> Result<(), Fail> {
     Ok(())
 }
 
-// First(n) above, at and below the groups held.
+// First(n) above, below and at the groups held, into buffers that are longer than needed or just as long; what lies behind the written part is untouched.
 #[test]
 fn first_above_below_and_at(rt: HostRuntime) -> Result<(), Fail> {
+    let heap = rt.alloc();
+    let mut stage = numbers();
+    assert!(rt; grow(&mut stage, 1, 3).is_ok());
+    assert_eq!(rt; leave(heap, &mut stage, 4, 1, 32)?.answer, Err(11));
+    let left = leave(heap, &mut stage, 2, 2, 17)?;
+    assert_eq!(rt; left.answer, Ok(2));
+    assert!(rt; left.validity.get(1).copied() == Some(255));
+    assert!(rt; left.data.get(15).copied() == Some(0));
+    assert!(rt; left.data.get(16).copied() == Some(255));
+    assert_eq!(rt; leave(heap, &mut stage, 1, 1, 8)?.answer, Ok(1));
+    assert_eq!(rt; leave(heap, &mut stage, 0, 0, 0)?.answer, Ok(0));
+    assert_eq!(rt; leave(heap, &mut stage, 1, 1, 8)?.answer, Err(11));
+    Ok(())
+}
+
+// The same into buffers that are always longer than needed.
+#[test]
+fn first_with_room_to_spare(rt: HostRuntime) -> Result<(), Fail> {
     let mut stage = numbers();
     assert!(rt; grow(&mut stage, 1, 3).is_ok());
     for (n, answer) in [
