@@ -4,12 +4,12 @@ ghost use Rattle.column.specs.Cells.{number_cell};
 
 use column::CellView;
 use layout::CellSource;
-use tables::{Entries, HeldCell};
+use tables::HeldCell;
 
 /// Column `named` of the keys, where they stand.
 #[derive(Clone, Copy)]
 pub struct KeyColumn<'a> {
-    pub keys: &'a Entries<[Option<i64>; 3]>,
+    pub keys: &'a [[Option<i64>; 3]],
     pub named: usize,
 }
 

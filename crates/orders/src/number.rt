@@ -61,7 +61,7 @@ impl NumberOrder {
         ensures named { result.named ≡ named }
     {
         KeyColumn {
-            keys: &self.keys,
+            keys: self.keys.as_slice(),
             named,
         }
     }

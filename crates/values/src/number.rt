@@ -5,10 +5,10 @@ ghost use Rattle.tables.specs.declared.StateFault.TheVariants as state;
 ghost use Rattle.values.specs.Held.{number_entries};
 ghost use Rattle.tables.proofs.Ordering.{number_state_laws};
 
-use crate::cells::{held_cell, write_cells};
+use crate::cells::held_cell;
 use column::{CellView, Column, Kind};
 use layout::{Output, Space};
-use tables::{Entries, GroupTable, StateFault, ValueState};
+use tables::{Entries, GroupTable, StateFault, ValueState, check_drop};
 
 /// A number, or null, for each held group. The original's `PrimitiveValueState`, at `Int64Type`.
 #[derive(Drop)]
@@ -90,6 +90,8 @@ impl ValueState for NumberValueState {
     }
 
     fn write(&self, n: usize, out: &mut Output) -> Result<(), StateFault> {
-        write_cells(&self.cells, Kind::Number, n, out)
+        let held = self.cells.as_slice();
+        check_drop(held.len(), n)?;
+        Ok(out.put_numbers(&held[..n])?)
     }
 }
